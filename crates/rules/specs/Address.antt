@@ -1,0 +1,18 @@
+-- Which bytes of two addresses are compared: EN 301 192 V1.3.1, table 7; document 01, 'Settings'.
+use Prim.Native.Nat.{ℕ}
+use mathlib.Core.Bool.{Bool}
+use lib.Dec.{eqb, ltb}
+use Rattle.wire.specs.Choice.{both, either}
+use Rattle.rules.specs.declared.Address.{Address}
+
+-- two bytes that are compared from a MAC_address_range of k on: they are equal, or the range is below k
+unfoldable pub agree : ℕ → ℕ → ℕ → ℕ → Bool
+agree k range x y = either (ltb range k) (eqb x y)
+
+-- range 1 compares MAC_address_6, range 2 also MAC_address_5, and so on up to all six
+unfoldable pub sameAddress : ℕ → Address → Address → Bool
+sameAddress range a b =
+    both (agree 1 range (a .mac6) (b .mac6))
+    (both (agree 2 range (a .mac5) (b .mac5))
+    (both (agree 3 range (a .mac4) (b .mac4))
+    (both (agree 4 range (a .mac3) (b .mac3)) (both (agree 5 range (a .mac2) (b .mac2)) (agree 6 range (a .mac1) (b .mac1))))))

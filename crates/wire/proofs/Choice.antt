@@ -1,0 +1,81 @@
+-- A test decides a choice: each law puts the test's value in its place, and the choice computes.
+use Prim.Native.Nat.{ℕ}
+use mathlib.Core.Path.{_≡_, refl, sym, _∙_}
+use mathlib.Core.List.{List, [], _∷_, _++_}
+use mathlib.Core.Bool.{Bool, true, false, not}
+use lib.Dec.{eqb}
+use borrow.Author.Tests.{eq-eqb}
+use native.Mathlib.Omega.{arith}
+use Rattle.wire.specs.Choice.{pick, both, either, Line, first, firstOf, numbered}
+
+-- no test is both
+pub never : false ≡ true → ⊥
+never e = let z : _≡_ {A = ℕ} 0 1 = cc in omega arith
+
+pub yes-pick : {A : Type 0} {t : Bool} {m : A} (a b : A) → t ≡ true → m ≡ a → m ≡ pick t a b
+unfolding pick
+yes-pick a b e h = rw e h
+
+pub not-pick : {A : Type 0} {t : Bool} {m : A} (a b : A) → t ≡ false → m ≡ b → m ≡ pick t a b
+unfolding pick
+not-pick a b e h = rw e h
+
+pub yes-both : {t m : Bool} (u : Bool) → t ≡ true → m ≡ u → m ≡ both t u
+unfolding both
+yes-both u e h = rw e h
+
+pub not-both : {t : Bool} (u : Bool) → t ≡ false → false ≡ both t u
+unfolding both
+not-both u e = rw e
+
+pub yes-either : {t : Bool} (u : Bool) → t ≡ true → true ≡ either t u
+unfolding either
+yes-either u e = rw e
+
+pub not-either : {t m : Bool} (u : Bool) → t ≡ false → m ≡ u → m ≡ either t u
+unfolding either
+not-either u e h = rw e h
+
+pub yes-first : {t : Bool} (n rest : ℕ) → t ≡ true → n ≡ first t n rest
+unfolding first
+yes-first n rest e = rw e
+
+pub not-first : {t : Bool} {m : ℕ} (n rest : ℕ) → t ≡ false → m ≡ rest → m ≡ first t n rest
+unfolding first
+not-first n rest e h = rw e h
+
+-- ---- a table in two parts
+here-step : (t : Bool) (n x y : ℕ) → (first t n x ≡ 0 → ⊥) → ((x ≡ 0 → ⊥) → y ≡ x) → first t n y ≡ first t n x
+unfolding first
+here-step true n x y h r = refl
+here-step false n x y h r = r h
+
+-- the first part gives a number
+pub firstOf-here : (a b : List Line) → (firstOf a ≡ 0 → ⊥) → firstOf (a ++ b) ≡ firstOf a
+unfolding firstOf
+firstOf-here [] b h = absurd (h refl)
+firstOf-here (l ∷ a) b h = here-step (l .applies) (l .number) (firstOf a) (firstOf (a ++ b)) h (firstOf-here a b)
+
+past-step : (t w : Bool) (n x y z : ℕ) → both (not (eqb n 0)) w ≡ true → first t n x ≡ 0 → (w ≡ true → x ≡ 0 → y ≡ z) → first t n y ≡ z
+unfolding first both
+past-step true w n x y z e h r = absurd (no-zero (eqb n 0) (eq-eqb n 0 h) e)
+  where
+    no-zero : (q : Bool) → q ≡ true → both (not q) w ≡ true → ⊥
+    no-zero true p f = never f
+    no-zero false p f = never p
+past-step false w n x y z e h r = r (after (eqb n 0) e) h
+  where
+    after : (q : Bool) → both (not q) w ≡ true → w ≡ true
+    after true f = absurd (never f)
+    after false f = f
+
+-- the first part gives none
+pub firstOf-past : (a b : List Line) → numbered a ≡ true → firstOf a ≡ 0 → firstOf (a ++ b) ≡ firstOf b
+unfolding firstOf numbered
+firstOf-past [] b e h = refl
+firstOf-past (l ∷ a) b e h =
+    past-step (l .applies) (numbered a) (l .number) (firstOf a) (firstOf (a ++ b)) (firstOf b) e h (firstOf-past a b)
+
+-- what a call gave, and what was found of it
+pub was : {A : Type 0} {r t u : A} → r ≡ t → r ≡ u → t ≡ u
+was p q = sym p ∙ q
