@@ -1,7 +1,7 @@
 // The bytes and the choices that every other crate uses. Each function takes every input: what stands past a slice's end is 0.
 ghost use mathlib.Core.Path.{_≡_};
 ghost use Prim.Native.Nat.{min};
-ghost use Rattle.wire.specs.Bytes.{byteAt, numberAt, over, Reads};
+ghost use Rattle.wire.specs.Bytes.{byteAt, bytesOf, numberAt, over, Reads};
 ghost use Rattle.wire.specs.Choice.{both, either, first};
 
 // Byte i.
@@ -36,6 +36,18 @@ pub fn u32_at(s: &[u8], i: usize) -> usize
         return high * 65536;
     }
     high * 65536 + u16_at(s, i + 2)
+}
+
+// The four bytes of a number, high byte first.
+pub fn u32_bytes(x: u32) -> [u8; 4]
+    ensures { λ r. ⌜ r ≡ bytesOf 4 x ⌝ }
+{
+    [
+        (x / 16777216 % 256) as u8,
+        (x / 65536 % 256) as u8,
+        (x / 256 % 256) as u8,
+        (x % 256) as u8,
+    ]
 }
 
 // The smaller of two numbers.

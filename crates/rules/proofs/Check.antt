@@ -1,0 +1,16 @@
+-- Every line of the check has a number other than 0, as computing shows; so a table's parts can be decided one after the other.
+use Prim.Native.Nat.{ℕ}
+use mathlib.Core.Path.{_≡_, refl}
+use mathlib.Core.List.{List}
+use mathlib.Core.Bool.{true}
+use Rattle.wire.specs.Choice.{both, numbered}
+use Rattle.rules.specs.declared.Form.{Form}
+use Rattle.rules.specs.Check.{formLines, orderLines, faultLines}
+
+pub form-numbered : (f : Form) (s : List ℕ) → numbered (formLines f s) ≡ true
+unfolding numbered both formLines
+form-numbered f s = refl
+
+pub fault-numbered : (f : Form) (s : List ℕ) → numbered (faultLines f s) ≡ true
+unfolding numbered both faultLines formLines orderLines
+fault-numbered f s = refl

@@ -1,0 +1,32 @@
+// What a sender writes before the payload and behind it.
+use rules::Address;
+ghost use mathlib.Core.Path.{_≡_};
+ghost use Rattle.rules.specs.Section.{header};
+ghost use Rattle.wire.specs.Choice.{pick};
+
+// The header of a section that is as long as `length`, its section_length, says, of which the low 12 bits are written.
+pub fn header(a: Address, flag: bool, number: u8, last: u8, length: u16) -> [u8; 12]
+    ensures { λ r. ⌜ r ≡ header a flag number last length ⌝ }
+{
+    [
+        0x3e,
+        (0xb0 + length / 256 % 16) as u8,
+        (length % 256) as u8,
+        a.mac6,
+        a.mac5,
+        flags(flag),
+        number,
+        last,
+        a.mac4,
+        a.mac3,
+        a.mac2,
+        a.mac1,
+    ]
+}
+
+// Reserved bits and current_next_indicator are ones, both scrambling controls zeros.
+fn flags(flag: bool) -> u8
+    ensures { λ r. ⌜ r ≡ pick flag 0xC3 0xC1 ⌝ }
+{
+    if flag { 0xc3 } else { 0xc1 }
+}
