@@ -1,7 +1,10 @@
 pub mod Address
 pub mod Check
 pub mod Crc
+pub mod Cut
+pub mod Demand2
 pub mod Row
 pub mod Section
+pub mod Send
 pub mod Step
 pub mod Written

@@ -52,3 +52,9 @@ pub struct Step {
     pub answer: Answer,
     pub state: State,
 }
+
+// What a sender answers: the bytes that it wrote, or the number of its refusal.
+pub enum Sending {
+    Sent(usize),
+    Unsent(u8),
+}

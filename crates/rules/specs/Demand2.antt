@@ -1,0 +1,38 @@
+-- Demand 2 of the sender and the receiver: the sender's sections, given in order to a fresh receiver with the same settings and room
+-- enough, give back exactly the bytes sent. A theorem, shown in proofs/Demand2.antt.
+use Prim.Native.Nat.{ℕ, _+_, _≤_, _<_}
+use mathlib.Core.Path.{_≡_}
+use mathlib.Core.List.{List, [], map}
+use mathlib.Core.Bool.{Bool, true}
+use lib.ListN.{length, getD, take}
+use Rattle.rules.specs.declared.Settings.{Settings}
+use Rattle.rules.specs.declared.Sending.the-variants.{Sent}
+use Rattle.rules.specs.declared.Answer.{Answer}
+use Rattle.rules.specs.declared.Answer.the-variants.{Delivered, Stored}
+use Rattle.rules.specs.Cut.{offers}
+use Rattle.rules.specs.Row.{after, fresh, Held, Receivable, section}
+use Rattle.rules.specs.Send.{sectionCount, sentOf}
+use Rattle.rules.specs.Step.{room, stepOf}
+
+-- what a receiver answers to section i of the row xs, given after those before it to a fresh receiver with the buffer b
+unfoldable pub answerAt : Settings → List ℕ → List (List ℕ) → ℕ → Answer
+answerAt c b xs i =
+    let h : Held = after c (fresh b) (map section (take i xs)) in
+    stepOf c (h .state) (getD xs i []) (h .buffer) .step .answer
+
+-- the row xs carries the unit u to the buffer b
+pub record Arrives (c : Settings) (b : List ℕ) (xs : List (List ℕ)) (u : List ℕ) : Type 0 where
+  pub receivable : (i : ℕ) → i < length xs → Receivable c (getD xs i [])
+  pub stored : (i : ℕ) → i + 1 < length xs → answerAt c b xs i ≡ Stored
+  pub delivered : (i : ℕ) → i + 1 ≡ length xs → answerAt c b xs i ≡ Delivered (length u)
+  pub unit : take (length u) (after c (fresh b) (map section xs) .buffer) ≡ u
+
+-- cut as the listing cuts, the n bytes that the sender gives are as many sections as 52 counts, and carry the unit to any buffer with room
+pub record Demand2 (c : Settings) (flag : Bool) (size : ℕ) (u out : List ℕ) (n : ℕ) : Type 0 where
+  pub counted : length (offers (take n (sentOf c flag size u out .output))) ≡ sectionCount size u
+  pub arrives : (b : List ℕ) → length u ≤ room b → Arrives c b (offers (take n (sentOf c flag size u out .output))) u
+
+-- wherever the sender accepts: good settings, either flag, any unit, any piece size from 1 to 4,080
+abbrev pub RoundTrip : Type 0
+RoundTrip =
+    (c : Settings) (flag : Bool) (size : ℕ) (u out : List ℕ) (n : ℕ) → sentOf c flag size u out .sending ≡ Sent n → Demand2 c flag size u out n
