@@ -4,10 +4,12 @@
 pub const MEASURED: &str = if cfg!(target_arch = "x86_64") {
     "fossknut is the static library as built for the box, on x86-64"
 } else {
-    "fossknut is the static library's LLVM module compiled for this processor, which is not x86-64: an indication only"
+    "fossknut is the static library's LLVM module compiled for this processor, not for x86-64: \
+     an indication only"
 };
 
-/// Whether the processor is QEMU's own (TCG), whose hypervisor leaf of CPUID says so, also to a single program (qemu-user).
+/// Whether the processor is QEMU's own (TCG), whose hypervisor leaf of CPUID says so, also to a
+/// single program (qemu-user).
 #[cfg(target_arch = "x86_64")]
 pub fn is_emulated() -> bool {
     // SAFETY: every x86-64 processor has CPUID. (Newer compilers know that, and call it safe.)

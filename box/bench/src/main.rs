@@ -1,4 +1,5 @@
-//! The speed of CRC_32: the proved library beside plain Rust, in GB/s (10^9 bytes a second), warm caches.
+//! The speed of CRC_32: the proved library beside plain Rust, in GB/s (10^9 bytes a second), warm
+//! caches.
 
 mod machine;
 mod plain;
@@ -27,24 +28,32 @@ fn main() -> ExitCode {
         return ExitCode::FAILURE;
     }
     if machine::is_emulated() {
-        eprintln!("bench: the processor is emulated, and a time taken here says nothing: no speed is given");
+        eprintln!("bench: no speed is given: under emulation a time says nothing");
         return ExitCode::FAILURE;
     }
-    print!("{:>5}", "bytes");
-    PROGRAMS.map(|(name, _)| print!(" {name:>9}"));
-    PROGRAMS[1..]
-        .iter()
-        .for_each(|(name, _)| print!("  fossknut/{name}"));
-    println!();
+    print_names();
     for size in SIZES {
-        print_line(size, speeds(size));
+        print_speeds(size, speeds(size));
     }
     ExitCode::SUCCESS
 }
 
-fn print_line(size: usize, speeds: [f64; PROGRAMS.len()]) {
+fn print_names() {
+    print!("{:>5}", "bytes");
+    for (name, _) in PROGRAMS {
+        print!("{name:>10}");
+    }
+    for (name, _) in &PROGRAMS[1..] {
+        print!("  fossknut/{name}");
+    }
+    println!();
+}
+
+fn print_speeds(size: usize, speeds: [f64; PROGRAMS.len()]) {
     print!("{size:>5}");
-    speeds.map(|speed| print!(" {speed:>9.2}"));
+    for speed in speeds {
+        print!("{speed:>10.2}");
+    }
     for ((name, _), speed) in PROGRAMS.iter().zip(speeds).skip(1) {
         let width = "  fossknut/".len() + name.len();
         print!("{:>width$.2}", speeds[0] / speed);
@@ -52,7 +61,8 @@ fn print_line(size: usize, speeds: [f64; PROGRAMS.len()]) {
     println!();
 }
 
-/// A wrong program may be as fast as it likes: all must give what the second program gives, at any length and alignment.
+/// A wrong program may be as fast as it likes: all must give what the second program gives, at any
+/// length and alignment.
 fn all_agree() -> bool {
     let bytes = Random::new(1).bytes(5_000);
     (0..600).chain(SIZES).all(|length| {
@@ -68,21 +78,24 @@ fn all_agree() -> bool {
     })
 }
 
-/// GB/s of each program over `size` bytes: the median of rounds in which they take turns, so that a disturbance meets all.
+/// GB/s of each program over `size` bytes: the median of rounds in which they take turns, so that a
+/// disturbance meets all.
 fn speeds(size: usize) -> [f64; PROGRAMS.len()] {
     let bytes = Random::new(2).bytes(size);
     let calls = PROGRAMS.map(|(_, crc_32)| calls_in_a_round(crc_32, &bytes));
-    let mut seconds = [[0.0; ROUNDS]; PROGRAMS.len()];
-    for round in 0..ROUNDS {
-        for (program, (_, crc_32)) in PROGRAMS.iter().enumerate() {
-            let time = time(*crc_32, &bytes, calls[program]);
-            seconds[program][round] = time.as_secs_f64() / calls[program] as f64;
+    let mut speeds = PROGRAMS.map(|_| Vec::with_capacity(ROUNDS));
+    for _ in 0..ROUNDS {
+        for (program, (_, crc_32)) in PROGRAMS.into_iter().enumerate() {
+            let time = time(crc_32, &bytes, calls[program]);
+            speeds[program].push((calls[program] * size) as f64 / time.as_secs_f64() / 1e9);
         }
     }
-    seconds.map(|mut rounds| {
-        rounds.sort_by(f64::total_cmp);
-        size as f64 / rounds[ROUNDS / 2] / 1e9
-    })
+    speeds.map(median)
+}
+
+fn median(mut speeds: Vec<f64>) -> f64 {
+    speeds.sort_by(f64::total_cmp);
+    speeds[speeds.len() / 2]
 }
 
 /// How many calls fill a round, found by doubling; this also warms the caches.
@@ -102,8 +115,17 @@ fn time(crc_32: Crc32, bytes: &[u8], calls: usize) -> Duration {
     start.elapsed()
 }
 
-/// `value`, in a way that the compiler cannot see through (std's black_box is newer than Rust 1.63).
+/// `value`, in a way that the compiler cannot see through (std's black_box is newer than Rust
+/// 1.63).
 fn opaque<T: Copy>(value: T) -> T {
     // SAFETY: a reference to a value that lives through the read.
     unsafe { std::ptr::read_volatile(&value) }
+}
+
+#[cfg(test)]
+mod tests {
+    #[test]
+    fn all_agree() {
+        assert!(super::all_agree());
+    }
 }

@@ -15,7 +15,7 @@ pub fn slicing_by_8(bytes: &[u8]) -> u32 {
     let mut register = START;
     let mut chunks = bytes.chunks_exact(8);
     for chunk in &mut chunks {
-        register = eight(&TABLES, 0, word(chunk) ^ u64::from(register) << 32);
+        register = eight(0, word(chunk) ^ (u64::from(register) << 32));
     }
     byte_by_byte(register, chunks.remainder())
 }
@@ -26,15 +26,14 @@ pub fn slicing_by_16(bytes: &[u8]) -> u32 {
     let mut chunks = bytes.chunks_exact(16);
     for chunk in &mut chunks {
         let (first, second) = chunk.split_at(8);
-        register = eight(&TABLES, 8, word(first) ^ u64::from(register) << 32)
-            ^ eight(&TABLES, 0, word(second));
+        register = eight(8, word(first) ^ (u64::from(register) << 32)) ^ eight(0, word(second));
     }
     byte_by_byte(register, chunks.remainder())
 }
 
 fn byte_by_byte(register: u32, bytes: &[u8]) -> u32 {
     bytes.iter().fold(register, |register, byte| {
-        register << 8 ^ TABLES[0][usize::from((register >> 24) as u8 ^ byte)]
+        (register << 8) ^ TABLES[0][(register >> 24) as usize ^ usize::from(*byte)]
     })
 }
 
@@ -45,16 +44,16 @@ fn word(eight_bytes: &[u8]) -> u64 {
 
 /// What eight bytes do to the register when `following` bytes of zeros follow them.
 #[inline(always)]
-fn eight(tables: &[[u32; 256]; 16], following: usize, word: u64) -> u32 {
+fn eight(following: usize, word: u64) -> u32 {
     let [a, b, c, d, e, f, g, h] = word.to_be_bytes();
-    tables[following + 7][usize::from(a)]
-        ^ tables[following + 6][usize::from(b)]
-        ^ tables[following + 5][usize::from(c)]
-        ^ tables[following + 4][usize::from(d)]
-        ^ tables[following + 3][usize::from(e)]
-        ^ tables[following + 2][usize::from(f)]
-        ^ tables[following + 1][usize::from(g)]
-        ^ tables[following][usize::from(h)]
+    TABLES[following + 7][usize::from(a)]
+        ^ TABLES[following + 6][usize::from(b)]
+        ^ TABLES[following + 5][usize::from(c)]
+        ^ TABLES[following + 4][usize::from(d)]
+        ^ TABLES[following + 3][usize::from(e)]
+        ^ TABLES[following + 2][usize::from(f)]
+        ^ TABLES[following + 1][usize::from(g)]
+        ^ TABLES[following][usize::from(h)]
 }
 
 const fn tables() -> [[u32; 256]; 16] {
@@ -77,7 +76,7 @@ const fn shift_byte(mut register: u32) -> u32 {
     let mut bit = 0;
     while bit < 8 {
         let shifted_out = register >> 31;
-        register = register << 1 ^ shifted_out * 0x04C1_1DB7;
+        register = (register << 1) ^ (shifted_out * 0x04C1_1DB7);
         bit += 1;
     }
     register

@@ -1,6 +1,7 @@
 //! Checks the sections of a recording: `check [FILE]`, standard input without a file.
 //!
-//! A line a section: its offset, and the number of the check that it does not pass, 0 if it is sound.
+//! A line a section: its offset, and the number of the check that it does not pass, 0 if it is
+//! sound.
 
 use std::env;
 use std::fs::File;
@@ -42,8 +43,8 @@ fn print_checks(recording: &[u8]) -> io::Result<()> {
     lines.flush()
 }
 
-/// The bytes that stand for the next section, whatever its table_id (01, "Listing"): 3 + section_length of them, or what is
-/// left if that is less.
+/// The bytes that stand for the next section, whatever its table_id (01, "Listing"): 3 +
+/// section_length of them, or what is left if that is less.
 fn first_section(rest: &[u8]) -> &[u8] {
     if rest.len() < 3 {
         return rest;

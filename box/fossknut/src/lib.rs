@@ -1,8 +1,10 @@
-//! The proved core of Fossknut for a box written in Rust: safe functions over the static library `libexports.a`.
+//! The proved core of Fossknut for a box written in Rust: safe functions over the static library
+//! `libexports.a`.
 //!
-//! What these functions answer is proved, in Rattle, for every slice. This crate adds Rust's types and nothing else; the
-//! calls across the boundary are in one small module. The build takes the library from the folder `FOSSKNUT_LIB_DIR`, and
-//! without it from where `rt staticlib exports` leaves it in this repository.
+//! What these functions answer is proved, in Rattle, for every slice. This crate adds Rust's types
+//! and nothing else; the calls across the boundary are in one small module. The build takes the
+//! library from the folder `FOSSKNUT_LIB_DIR`, and without it from where `rt staticlib exports`
+//! leaves it in this repository.
 //!
 //! ```
 //! // A datagram section for 02:00:5E:10:20:30 with nothing in it.
@@ -29,7 +31,8 @@ pub use refusal::Refusal;
 
 /// The CRC_32 of ISO/IEC 13818-1 (elsewhere CRC-32/MPEG-2) over all of `bytes`.
 ///
-/// Polynomial 0x04C11DB7, start 0xFFFFFFFF, high bit first, no final inversion. Over a section with its CRC_32 it is 0.
+/// Polynomial 0x04C11DB7, start 0xFFFFFFFF, high bit first, no final inversion. Over a section with
+/// its CRC_32 it is 0.
 ///
 /// ```
 /// assert_eq!(fossknut::crc_32(b"123456789"), 0x0376_E6E7);
@@ -39,11 +42,11 @@ pub fn crc_32(bytes: &[u8]) -> u32 {
     ffi::crc_32(bytes)
 }
 
-/// Whether `section` is a sound datagram section of EN 301 192: `Ok` if it passes all checks from 12 to 19, else the first
-/// that it does not pass.
+/// Whether `section` is a sound datagram section of EN 301 192: `Ok` if it passes all checks from
+/// 12 to 19, else the first that it does not pass.
 ///
-/// The slice has to be the whole section and nothing else, from table_id to CRC_32. To whom the section is addressed is not
-/// looked at.
+/// The slice has to be the whole section and nothing else, from table_id to CRC_32. To whom the
+/// section is addressed is not looked at.
 ///
 /// ```
 /// use fossknut::Refusal;
@@ -62,7 +65,8 @@ pub fn crc_32(bytes: &[u8]) -> u32 {
 ///
 /// # Panics
 ///
-/// If the library answers a number that this crate does not know, which means that the two are of different versions.
+/// If the library answers a number that this crate does not know, which means that the two are of
+/// different versions.
 pub fn check(section: &[u8]) -> Result<(), Refusal> {
     match ffi::check(section) {
         0 => Ok(()),

@@ -1,12 +1,12 @@
-/// CRC_32 as ISO/IEC 13818-1 draws it: a register of 32 bits, shifted once for each bit of `bytes`, high bit first.
+/// CRC_32 as ISO/IEC 13818-1 draws it: a register of 32 bits, shifted once for each bit of `bytes`,
+/// high bit first.
 ///
 /// 01: polynomial 0x04C11DB7, start 0xFFFFFFFF, high bit first, no final inversion.
-#[must_use]
 pub fn crc_32(bytes: &[u8]) -> u32 {
     let mut register = 0xFFFF_FFFF_u32;
     for byte in bytes {
         for place in (0..8).rev() {
-            let bit = u32::from(byte >> place & 1);
+            let bit = u32::from((byte >> place) & 1);
             let shifted_out = register >> 31;
             register <<= 1;
             if bit != shifted_out {

@@ -16,13 +16,13 @@ pub fn sets_of_checks() -> impl Iterator<Item = Vec<u8>> {
         let chosen = CHECKS
             .iter()
             .enumerate()
-            .filter(|(place, _)| set >> place & 1 == 1);
+            .filter(|(place, _)| (set >> place) & 1 == 1);
         chosen.map(|(_, &check)| check).collect()
     })
 }
 
-/// A sound section, as a sender writes it (01, "The sender"); `address` as printed, MAC_address_1 first.
-#[must_use]
+/// A sound section, as a sender writes it (01, "The sender"); `address` as printed, MAC_address_1
+/// first.
 pub fn sound(
     address: [u8; 6],
     section_number: u8,
@@ -43,7 +43,7 @@ pub fn sound(
 
 /// Writes the low 12 bits of `section_length` into its field.
 pub fn set_section_length(section: &mut [u8], section_length: usize) {
-    section[1] = section[1] & 0xF0 | (section_length >> 8 & 0x0F) as u8;
+    section[1] = (section[1] & 0xF0) | ((section_length >> 8) & 0x0F) as u8;
     section[2] = section_length as u8;
 }
 
@@ -53,30 +53,24 @@ pub fn seal(section: &mut [u8]) {
     field.copy_from_slice(&crc_32(before).to_be_bytes());
 }
 
-/// A sound section for anyone: most are short, some of any length, and all that a receiver ignores is of any value.
-#[must_use]
-pub fn any_sound(random: &mut Random) -> Vec<u8> {
-    let most = if random.one_in(16) {
-        LONGEST - SHORTEST
-    } else {
-        40
-    };
-    let payload_length = random.between(0, most);
-    let payload = random.bytes(payload_length);
-    let last_section_number = random.byte();
-    let section_number = random.between(0, last_section_number.into()) as u8;
-    let address = [0; 6].map(|_| random.byte());
-    let mut section = sound(address, section_number, last_section_number, &payload);
-    section[1] ^= random.byte() & 0x30; // reserved
-    section[5] ^= random.byte() & 0xF2; // reserved, payload scrambling, LLC_SNAP_flag
+/// `section` with another byte at `place`, and CRC_32 right.
+pub fn with_byte(section: &[u8], place: usize, byte: u8) -> Vec<u8> {
+    let mut section = section.to_vec();
+    section[place] = byte;
     seal(&mut section);
     section
 }
 
-/// A section to which those checks of `faults` apply, and no others, as far as the check in front lets one see.
-#[must_use]
+/// A sound section for anyone: most are short, some of any length, and what the check ignores is of
+/// any value.
+pub fn any_sound(random: &mut Random) -> Vec<u8> {
+    faulty(random, &[])
+}
+
+/// A section to which the checks of `faults` apply, and no others, as far as the check in front
+/// lets one see.
 pub fn faulty(random: &mut Random, faults: &[u8]) -> Vec<u8> {
-    let mut section = any_sound(random);
+    let mut section = any_unsealed(random);
     for &fault in faults {
         spoil(random, &mut section, fault);
     }
@@ -89,6 +83,24 @@ pub fn faulty(random: &mut Random, faults: &[u8]) -> Vec<u8> {
     if faults.contains(&12) {
         section.truncate(random.below(SHORTEST));
     }
+    section
+}
+
+/// [`any_sound`], but for its CRC_32.
+fn any_unsealed(random: &mut Random) -> Vec<u8> {
+    let longest = LONGEST - SHORTEST;
+    let payload_length = match random.below(64) {
+        0 => longest,
+        1..=4 => random.between(0, longest),
+        5..=9 => 0,
+        _ => random.between(0, 40),
+    };
+    let mut section = vec![TABLE_ID, 0x80 | (random.byte() & 0x30), 0];
+    section.extend(random.bytes(SHORTEST + payload_length - BEFORE_LENGTH));
+    let section_length = section.len() - BEFORE_LENGTH;
+    set_section_length(&mut section, section_length);
+    section[5] = (section[5] & !0x0C) | 0x01; // address scrambling 00, current_next_indicator 1
+    section[6] = random.between(0, section[7].into()) as u8;
     section
 }
 
@@ -109,12 +121,13 @@ fn spoil(random: &mut Random, section: &mut Vec<u8>, fault: u8) {
     }
 }
 
-/// The two halves of 14: a field that is not the slice's length minus 3, or one that is, and over 4,093.
+/// The two halves of 14: a field that is not the slice's length minus 3, or one that is, and over
+/// 4,093.
 fn spoil_length(random: &mut Random, section: &mut Vec<u8>) {
     let section_length = section.len() - BEFORE_LENGTH;
     match random.below(4) {
         0 => set_section_length(section, section_length + random.between(1, 0xFFF)),
-        1 => section.extend([0; 5].iter().take(random.between(1, 5))),
+        1 => section.resize(section.len() + random.between(1, 5), 0),
         2 if section.len() > SHORTEST => {
             section.truncate(random.between(SHORTEST, section.len() - 1));
         }
@@ -131,6 +144,14 @@ fn spoil_length(random: &mut Random, section: &mut Vec<u8>) {
 mod tests {
     use super::*;
     use crate::check;
+
+    #[test]
+    fn headers_of_the_papers() {
+        // 01, "Samples on the bench"
+        let header = [0x3E, 0xB0, 0x11, 0x30, 0x20, 0xC1, 0, 0, 0x10, 0x5E, 0, 2];
+        assert_eq!(sound(OURS, 0, 0, &[0; 4])[..12], header);
+        assert_eq!(sound(OURS, 0, 0, &[0; 4_080])[..3], [0x3E, 0xBF, 0xFD]);
+    }
 
     #[test]
     fn sound_sections_are_sound() {

@@ -1,7 +1,14 @@
 //! A recording: sections one behind the other (01, "Listing").
 
-/// The parts of a recording that are offered as sections, with their offsets, whatever their table_id: with 3 or more bytes
-/// left 3 + section_length bytes or what is left, else the rest.
+/// The input that 01 gives under "Listing".
+pub const LISTING_OF_01: [u8; 21] = [
+    0x00, 0xB0, 0x0D, 0, 0, 0, 0, 0, 0, 0, 0, 0, 0, 0, 0, 0, // thirteen 00
+    0x00, 0x00, 0x00, //
+    0x3E, 0xB0,
+];
+
+/// The parts of a recording that are offered as sections, with their offsets, whatever their
+/// table_id: with 3 or more bytes left 3 + section_length bytes or what is left, else the rest.
 pub fn offers(recording: &[u8]) -> impl Iterator<Item = (usize, &[u8])> {
     let mut offset = 0;
     std::iter::from_fn(move || {
@@ -9,7 +16,7 @@ pub fn offers(recording: &[u8]) -> impl Iterator<Item = (usize, &[u8])> {
         let rest = &recording[start..];
         let length = match rest {
             [] => return None,
-            [_, high, low, ..] => 3 + (usize::from(high & 0x0F) << 8 | usize::from(*low)),
+            [_, high, low, ..] => 3 + ((usize::from(high & 0x0F) << 8) | usize::from(*low)),
             _ => rest.len(),
         };
         let offer = &rest[..length.min(rest.len())];
@@ -20,7 +27,7 @@ pub fn offers(recording: &[u8]) -> impl Iterator<Item = (usize, &[u8])> {
 
 #[cfg(test)]
 mod tests {
-    use super::offers;
+    use super::{offers, LISTING_OF_01};
 
     fn cut(recording: &[u8]) -> Vec<(usize, usize)> {
         offers(recording)
@@ -30,10 +37,7 @@ mod tests {
 
     #[test]
     fn the_listing_of_the_papers() {
-        let mut recording = vec![0x00, 0xB0, 0x0D];
-        recording.extend([0; 16]);
-        recording.extend([0x3E, 0xB0]);
-        assert_eq!(cut(&recording), [(0, 16), (16, 3), (19, 2)]);
+        assert_eq!(cut(&LISTING_OF_01), [(0, 16), (16, 3), (19, 2)]);
     }
 
     #[test]

@@ -1,4 +1,7 @@
 //! CRC_32 values that others have published.
+//!
+//! The sources are not among the papers: the values are quoted from memory, and that they come out
+//! right bit by bit is the evidence that they were remembered right.
 
 /// Bytes and their CRC_32.
 pub struct Vector {
@@ -10,7 +13,8 @@ pub struct Vector {
     pub crc_32: u32,
 }
 
-/// The same polynomial, start and order as CRC_32, but inverted at the end, as ITU-T I.363.5 has it for AAL5.
+/// The same polynomial, start and order as CRC_32, but inverted at the end, as ITU-T I.363.5 has it
+/// for AAL5.
 const fn of_aal5(crc: u32) -> u32 {
     !crc
 }
@@ -34,7 +38,8 @@ pub const CRC_32: &[Vector] = &[
     },
     Vector {
         source: "its program map section for one H.264 and one AAC stream",
-        bytes: b"\x02\xB0\x17\x00\x01\xC1\x00\x00\xE1\x00\xF0\x00\x1B\xE1\x00\xF0\x00\x0F\xE1\x01\xF0\x00",
+        bytes: b"\x02\xB0\x17\x00\x01\xC1\x00\x00\xE1\x00\xF0\x00\
+            \x1B\xE1\x00\xF0\x00\x0F\xE1\x01\xF0\x00",
         crc_32: 0x2F44_B99B,
     },
     Vector {
@@ -54,7 +59,8 @@ pub const CRC_32: &[Vector] = &[
     },
 ];
 
-/// An AAL5 CPCS-PDU up to its CRC: the payload, CPCS-UU 0, CPI 0 and the payload's length in 16 bits.
+/// An AAL5 CPCS-PDU up to its CRC: the payload, CPCS-UU 0, CPI 0 and the payload's length in 16
+/// bits.
 const fn aal5(payload: [u8; 40]) -> [u8; 44] {
     let mut pdu = [0; 44];
     let mut i = 0;

@@ -1,10 +1,12 @@
 //! The check, 12 to 19.
 
 use crate::Library;
+use fossknut::Refusal;
 use second::generator::{
     any_sound, faulty, seal, set_section_length, sets_of_checks, sound, CHECKS, OURS,
 };
 use second::random::Random;
+use second::telling::telling;
 
 impl Library {
     /// The library's answer, which has to be the second program's.
@@ -22,75 +24,23 @@ fn sound_of(random: &mut Random, length: usize) -> Vec<u8> {
     sound(OURS, 0, 0, &payload)
 }
 
-/// `section` with what `change` does to it, and CRC_32 right.
-fn changed(section: &[u8], change: impl Fn(&mut [u8])) -> Vec<u8> {
-    let mut section = section.to_vec();
-    change(&mut section);
-    seal(&mut section);
-    section
-}
-
 #[test]
-fn samples_of_the_papers() {
-    let sample = sound(OURS, 0, 0, &[1, 2, 3, 4]);
-    assert_eq!(
-        sample[..12],
-        [0x3E, 0xB0, 0x11, 0x30, 0x20, 0xC1, 0, 0, 0x10, 0x5E, 0, 2]
-    );
-    let longest = sound(OURS, 0, 0, &[0; 4_080]);
-    assert_eq!(longest[..3], [0x3E, 0xBF, 0xFD]);
-    let too_long = sound(OURS, 0, 0, &[0; 4_081]);
-    assert_eq!(
-        (too_long.len(), &too_long[1..3]),
-        (4_097, &[0xBF, 0xFE][..])
-    );
-
+fn telling_inputs() {
     let mut library = Library::new();
-    assert_eq!(library.agreed(&sample), 0);
-    assert_eq!(library.agreed(&longest), 0);
-    assert_eq!(library.agreed(&longest[..15]), 12);
-    assert_eq!(library.agreed(&too_long), 14);
-    assert_eq!(library.agreed(&[0; 16]), 13, "the listing's first line");
-    assert_eq!(library.agreed(&[0; 3]), 12, "its second");
-    assert_eq!(library.agreed(&[0x3E, 0xB0]), 12, "its third");
-}
-
-#[test]
-fn telling_inputs_of_the_readings() {
-    let mut library = Library::new();
-    let shortest = sound(OURS, 0, 0, &[]);
-    let section_length_5 = changed(&shortest, |section| set_section_length(section, 5));
-    assert_eq!(library.agreed(&section_length_5), 14, "A4");
-    assert_eq!(library.agreed(&section_length_5[..8]), 12, "A4");
-
-    let of_int = |length: usize| {
-        let section = sound(OURS, 0, 0, &vec![0; length - 16]);
-        changed(&section, |section| section[0] = 0x4C)
-    };
-    assert_eq!(
-        library.agreed(&of_int(17)),
-        13,
-        "A3: 17 bytes are too few for an INT only"
-    );
-    assert_eq!(library.agreed(&of_int(17)[..15]), 12, "A3");
-
-    let mut longest_offer = vec![0x3E, 0xBF, 0xFF];
-    longest_offer.extend([0; 4_095]);
-    assert_eq!(library.agreed(&longest_offer), 14, "A18");
-    seal(&mut longest_offer);
-    assert_eq!(library.agreed(&longest_offer), 14, "A18, CRC_32 right");
-
-    for reserved in 0..16 {
-        let section = changed(&shortest, |section| {
-            section[1] = section[1] & 0xCF | (reserved & 3) << 4;
-            section[5] = section[5] & 0x3F | (reserved >> 2) << 6;
-        });
+    for telling in telling() {
         assert_eq!(
-            library.agreed(&section),
-            0,
-            "A19: reserved bits {reserved:04b}"
+            library.agreed(&telling.bytes),
+            telling.number,
+            "{}",
+            telling.source
         );
     }
+}
+
+#[test]
+fn no_bytes_at_no_address() {
+    // An empty slice in Rust may point to nowhere.
+    assert_eq!(fossknut::check(&[]), Err(Refusal::TooShort));
 }
 
 #[test]
@@ -100,19 +50,40 @@ fn every_length() {
     for length in 0..=4_200 {
         let mut section = sound_of(&mut random, length.max(16));
         section.truncate(length);
-        let expected = match length {
-            0..=15 => 12,
-            16..=4_096 => 0,
-            _ => 14,
+        let (as_it_is, damaged) = match length {
+            0..=15 => (12, 12),
+            16..=4_096 => (0, 16),
+            _ => (14, 14),
         };
-        assert_eq!(library.agreed(&section), expected, "{length} bytes");
-        if length < 16 {
-            continue;
+        assert_eq!(library.agreed(&section), as_it_is, "{length} bytes");
+        if let Some(last) = section.last_mut() {
+            *last ^= 1 << random.below(8);
         }
+        assert_eq!(library.agreed(&section), damaged, "{length} bytes, damaged");
+    }
+}
+
+#[test]
+fn section_length_off_at_every_length() {
+    let mut library = Library::new();
+    let mut random = Random::new(7);
+    for length in 16..=4_200 {
+        let mut section = sound_of(&mut random, length);
         for section_length in [length - 4, length - 2, 12, 13, 4_093, 4_094, 4_095] {
             set_section_length(&mut section, section_length);
             seal(&mut section);
             library.agreed(&section);
+        }
+    }
+}
+
+#[test]
+fn lengths_that_are_right_in_their_low_bits() {
+    let mut library = Library::new();
+    for above in [4_096, 8_192, 65_536, 131_072] {
+        for length in [16, 17, 188, 4_096] {
+            let section = sound(OURS, 0, 0, &vec![0; above + length - 16]);
+            assert_eq!(library.agreed(&section), 14, "{} bytes", section.len());
         }
     }
 }
@@ -162,6 +133,7 @@ fn every_single_damaged_bit() {
     let mut random = Random::new(3);
     for length in [16, 17, 23, 188, 1_024] {
         let mut section = sound_of(&mut random, length);
+        assert_eq!(library.agreed(&section), 0);
         for bit in 0..8 * length {
             section[bit / 8] ^= 1 << (bit % 8);
             let answer = library.agreed(&section);
@@ -235,7 +207,8 @@ fn random_sections() {
     }
 }
 
-/// A section with some bits of its header or of any part of it flipped, and CRC_32 often right again.
+/// A section with some bits of its header or of any part of it flipped, and CRC_32 often right
+/// again.
 fn bits_flipped(random: &mut Random) -> Vec<u8> {
     let mut section = any_sound(random);
     let end = if random.one_in(2) { 12 } else { section.len() };

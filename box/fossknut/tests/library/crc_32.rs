@@ -46,6 +46,26 @@ fn every_length_at_every_alignment() {
 }
 
 #[test]
+fn long_inputs() {
+    let mut library = Library::new();
+    let mut random = Random::new(3);
+    for length in [8_191, 65_535, 65_536, 65_537, 200_003] {
+        let bytes = random.bytes(length);
+        assert_eq!(
+            library.crc_32(&bytes),
+            second::crc_32(&bytes),
+            "{length} bytes"
+        );
+    }
+}
+
+#[test]
+fn no_bytes_at_no_address() {
+    // An empty slice in Rust may point to nowhere.
+    assert_eq!(fossknut::crc_32(&[]), 0xFFFF_FFFF);
+}
+
+#[test]
 fn every_value_of_each_byte() {
     let mut library = Library::new();
     let mut bytes = Random::new(2).bytes(67);

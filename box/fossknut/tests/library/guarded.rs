@@ -24,7 +24,7 @@ const PROT_READ_AND_WRITE: c_int = 1 | 2;
 const MAP_PRIVATE_AND_ANONYMOUS: c_int = 0x02 | 0x20;
 
 /// A whole number of pages, whichever size pages have here.
-const LENGTH: usize = 65_536;
+const LENGTH: usize = 4 * 65_536;
 
 /// [`LENGTH`] bytes, with as many that cannot be read or written on either side.
 pub struct Guarded {
@@ -33,7 +33,8 @@ pub struct Guarded {
 
 impl Guarded {
     pub fn new() -> Self {
-        // SAFETY: fresh memory at an address of the kernel's choice; only the middle third is ever opened.
+        // SAFETY: fresh memory at an address of the kernel's choice; only the middle third is ever
+        // opened.
         unsafe {
             let whole = mmap(
                 ptr::null_mut(),
