@@ -1,0 +1,43 @@
+//! The static library beside the second program, through the wrapper that the box builder uses.
+
+mod check;
+mod crc_32;
+mod guarded;
+mod refusal;
+
+use fossknut::Refusal;
+use guarded::Guarded;
+
+/// The library, called only on slices whose ends are guarded, and held to leave them as they were.
+struct Library {
+    memory: Guarded,
+}
+
+impl Library {
+    fn new() -> Self {
+        Self {
+            memory: Guarded::new(),
+        }
+    }
+
+    fn crc_32(&mut self, bytes: &[u8]) -> u32 {
+        self.call(bytes, fossknut::crc_32)
+    }
+
+    /// The number that the papers give the answer.
+    fn check(&mut self, section: &[u8]) -> u8 {
+        self.call(section, |section| {
+            fossknut::check(section).map_or_else(Refusal::number, |()| 0)
+        })
+    }
+
+    fn call<T: PartialEq + std::fmt::Debug>(&mut self, bytes: &[u8], f: fn(&[u8]) -> T) -> T {
+        let at_end = self.memory.at_end(bytes);
+        let answer = f(at_end);
+        assert!(at_end == bytes, "the call changed its input");
+        let at_start = self.memory.at_start(bytes);
+        assert_eq!(f(at_start), answer, "the answer depends on the place");
+        assert!(at_start == bytes, "the call changed its input");
+        answer
+    }
+}

@@ -1,0 +1,72 @@
+//! Writes the sample recordings, and what the check gives for each: `samples FOLDER`.
+
+use std::fmt::Write;
+use std::fs;
+use std::path::PathBuf;
+
+use second::generator::{sound, with_byte, OURS};
+use second::recording::{offers, LISTING_OF_01};
+
+fn main() -> std::io::Result<()> {
+    let folder = PathBuf::from(std::env::args_os().nth(1).expect("a folder to write to"));
+    fs::create_dir_all(&folder)?;
+    for (name, recording) in [
+        ("three-sound-sections", three_sound_sections()),
+        ("one-damaged-section", one_damaged_section()),
+        ("each-number-once", each_number_once()),
+        ("listing-of-the-papers", LISTING_OF_01.to_vec()),
+    ] {
+        fs::write(folder.join(name).with_extension("bin"), &recording)?;
+        fs::write(
+            folder.join(name).with_extension("check"),
+            checks(&recording),
+        )?;
+    }
+    Ok(())
+}
+
+/// A line an offer: offset and number.
+fn checks(recording: &[u8]) -> String {
+    let mut lines = String::new();
+    for (offset, section) in offers(recording) {
+        let number = second::check(section);
+        writeln!(lines, "{offset} {number}").expect("a String takes any text");
+    }
+    lines
+}
+
+/// One run for our address, with payloads of 4, 0 and 3 bytes.
+fn three_sound_sections() -> Vec<u8> {
+    let payloads: [&[u8]; 3] = [b"Foss", b"", b"knu"];
+    let sections = (0..).zip(payloads);
+    sections
+        .flat_map(|(number, payload)| sound(OURS, number, 2, payload))
+        .collect()
+}
+
+/// The same, with one bit of the first payload received wrong.
+fn one_damaged_section() -> Vec<u8> {
+    let mut recording = three_sound_sections();
+    recording[12] ^= 1;
+    recording
+}
+
+/// Sections on which the check answers 0, 13, 15, 16, 17, 18, 19, 12 and 14, in this order: 14
+/// where the recording stops inside a section.
+fn each_number_once() -> Vec<u8> {
+    let sound = sound(OURS, 0, 0, b"knut");
+    let mut crc_32_wrong = sound.clone();
+    crc_32_wrong[19] ^= 0x80;
+    [
+        &sound[..],
+        &with_byte(&sound, 0, 0x4C),
+        &with_byte(&sound, 1, 0xF0),
+        &crc_32_wrong,
+        &with_byte(&sound, 5, 0xC0),
+        &with_byte(&sound, 6, 1),
+        &with_byte(&sound, 5, 0xC5),
+        &[0x3E, 0xB0, 0x05, 0x30, 0x20, 0xC1, 0x00, 0x00],
+        &sound[..19],
+    ]
+    .concat()
+}

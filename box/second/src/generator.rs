@@ -1,0 +1,175 @@
+//! Inputs for the tests: sections made as a sender makes them, and faults put into them on purpose.
+
+use crate::crc_32;
+use crate::random::Random;
+use crate::section::{BEFORE_LENGTH, CRC_32, HEADER, LONGEST, SHORTEST, TABLE_ID};
+
+/// The address of the papers' samples, 02:00:5E:10:20:30.
+pub const OURS: [u8; 6] = [0x02, 0x00, 0x5E, 0x10, 0x20, 0x30];
+
+/// The checks of a section, in their order.
+pub const CHECKS: [u8; 8] = [12, 13, 14, 15, 16, 17, 18, 19];
+
+/// Every set of checks, each in their order: the empty one first, all eight last.
+pub fn sets_of_checks() -> impl Iterator<Item = Vec<u8>> {
+    (0..1_u32 << CHECKS.len()).map(|set| {
+        let chosen = CHECKS
+            .iter()
+            .enumerate()
+            .filter(|(place, _)| (set >> place) & 1 == 1);
+        chosen.map(|(_, &check)| check).collect()
+    })
+}
+
+/// A sound section, as a sender writes it (01, "The sender"); `address` as printed, MAC_address_1
+/// first.
+pub fn sound(
+    address: [u8; 6],
+    section_number: u8,
+    last_section_number: u8,
+    payload: &[u8],
+) -> Vec<u8> {
+    let [mac_1, mac_2, mac_3, mac_4, mac_5, mac_6] = address;
+    let mut section = vec![TABLE_ID, 0xB0, 0, mac_6, mac_5, 0xC1];
+    section.extend([section_number, last_section_number]);
+    section.extend([mac_4, mac_3, mac_2, mac_1]);
+    section.extend(payload);
+    section.extend([0; CRC_32]);
+    let section_length = section.len() - BEFORE_LENGTH;
+    set_section_length(&mut section, section_length);
+    seal(&mut section);
+    section
+}
+
+/// Writes the low 12 bits of `section_length` into its field.
+pub fn set_section_length(section: &mut [u8], section_length: usize) {
+    section[1] = (section[1] & 0xF0) | ((section_length >> 8) & 0x0F) as u8;
+    section[2] = section_length as u8;
+}
+
+/// Makes CRC_32 right.
+pub fn seal(section: &mut [u8]) {
+    let (before, field) = section.split_at_mut(section.len() - CRC_32);
+    field.copy_from_slice(&crc_32(before).to_be_bytes());
+}
+
+/// `section` with another byte at `place`, and CRC_32 right.
+pub fn with_byte(section: &[u8], place: usize, byte: u8) -> Vec<u8> {
+    let mut section = section.to_vec();
+    section[place] = byte;
+    seal(&mut section);
+    section
+}
+
+/// A sound section for anyone: most are short, some of any length, and what the check ignores is of
+/// any value.
+pub fn any_sound(random: &mut Random) -> Vec<u8> {
+    faulty(random, &[])
+}
+
+/// A section to which the checks of `faults` apply, and no others, as far as the check in front
+/// lets one see.
+pub fn faulty(random: &mut Random, faults: &[u8]) -> Vec<u8> {
+    let mut section = any_unsealed(random);
+    for &fault in faults {
+        spoil(random, &mut section, fault);
+    }
+    seal(&mut section);
+    if faults.contains(&16) {
+        let bit = random.below(8 * CRC_32);
+        let last = section.len() - 1;
+        section[last - bit / 8] ^= 1 << (bit % 8);
+    }
+    if faults.contains(&12) {
+        section.truncate(random.below(SHORTEST));
+    }
+    section
+}
+
+/// [`any_sound`], but for its CRC_32.
+fn any_unsealed(random: &mut Random) -> Vec<u8> {
+    let longest = LONGEST - SHORTEST;
+    let payload_length = match random.below(64) {
+        0 => longest,
+        1..=4 => random.between(0, longest),
+        5..=9 => 0,
+        _ => random.between(0, 40),
+    };
+    let mut section = vec![TABLE_ID, 0x80 | (random.byte() & 0x30), 0];
+    section.extend(random.bytes(SHORTEST + payload_length - BEFORE_LENGTH));
+    let section_length = section.len() - BEFORE_LENGTH;
+    set_section_length(&mut section, section_length);
+    section[5] = (section[5] & !0x0C) | 0x01; // address scrambling 00, current_next_indicator 1
+    section[6] = random.between(0, section[7].into()) as u8;
+    section
+}
+
+/// Puts one fault in, save 12 and 16, which stand only in a section that is otherwise done.
+fn spoil(random: &mut Random, section: &mut Vec<u8>, fault: u8) {
+    match fault {
+        13 => section[0] ^= random.between(1, 0xFF) as u8,
+        14 => spoil_length(random, section),
+        15 => section[1] ^= (random.between(1, 3) as u8) << 6,
+        17 => section[5] &= !1,
+        18 => {
+            let last_section_number = random.below(255);
+            section[6] = random.between(last_section_number + 1, 255) as u8;
+            section[7] = last_section_number as u8;
+        }
+        19 => section[5] |= (random.between(1, 3) as u8) << 2,
+        _ => {}
+    }
+}
+
+/// The two halves of 14: a field that is not the slice's length minus 3, or one that is, and over
+/// 4,093.
+fn spoil_length(random: &mut Random, section: &mut Vec<u8>) {
+    let section_length = section.len() - BEFORE_LENGTH;
+    match random.below(4) {
+        0 => set_section_length(section, section_length + random.between(1, 0xFFF)),
+        1 => section.resize(section.len() + random.between(1, 5), 0),
+        2 if section.len() > SHORTEST => {
+            section.truncate(random.between(SHORTEST, section.len() - 1));
+        }
+        _ => {
+            let over = random.between(4_094, 4_095);
+            section.truncate(HEADER);
+            section.resize(BEFORE_LENGTH + over, random.byte());
+            set_section_length(section, over);
+        }
+    }
+}
+
+#[cfg(test)]
+mod tests {
+    use super::*;
+    use crate::check;
+
+    #[test]
+    fn headers_of_the_papers() {
+        // 01, "Samples on the bench"
+        let header = [0x3E, 0xB0, 0x11, 0x30, 0x20, 0xC1, 0, 0, 0x10, 0x5E, 0, 2];
+        assert_eq!(sound(OURS, 0, 0, &[0; 4])[..12], header);
+        assert_eq!(sound(OURS, 0, 0, &[0; 4_080])[..3], [0x3E, 0xBF, 0xFD]);
+    }
+
+    #[test]
+    fn sound_sections_are_sound() {
+        let mut random = Random::new(1);
+        for _ in 0..2_000 {
+            assert_eq!(check(&any_sound(&mut random)), 0);
+        }
+    }
+
+    #[test]
+    fn the_first_fault_decides() {
+        let mut random = Random::new(2);
+        for faults in sets_of_checks() {
+            for _ in 0..20 {
+                let section = faulty(&mut random, &faults);
+                let first = faults.first().copied().unwrap_or(0);
+                assert_eq!(check(&section), first, "{faults:?} in {section:02X?}");
+            }
+        }
+    }
+}

@@ -1,0 +1,20 @@
+//! The second program: what the papers ask of Fossknut, written from them alone, as plainly as can
+//! be.
+//!
+//! The proved program is held against it. Speed is no aim here, and nothing is shared with the
+//! proved program but the papers: 01 is the customer's paper, READINGS the list of how its open
+//! points are read.
+
+#![deny(missing_docs)]
+#![forbid(unsafe_code)]
+
+mod crc_32;
+pub mod generator;
+pub mod random;
+pub mod recording;
+pub mod section;
+pub mod telling;
+pub mod vectors;
+
+pub use crc_32::crc_32;
+pub use section::check;
