@@ -1,1 +1,4 @@
 pub mod Sound
+pub mod Keys
+pub mod Runs
+pub mod Track
