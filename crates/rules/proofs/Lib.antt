@@ -2,3 +2,4 @@ pub mod Sound
 pub mod Keys
 pub mod Runs
 pub mod Track
+pub mod Turn

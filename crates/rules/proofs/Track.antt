@@ -35,14 +35,14 @@ limit-small : (c : Settings) → goodSettings c ≡ true → c .limit ≤ 255
 unfolding goodSettings
 limit-small c p = leb-true _ _ (both-true _ _ (both-true _ _ p .1) .1)
 
-in-order : (s : List ℕ) → check s ≡ 0 → sectionNumber s ≤ keyOf s .last
+pub in-order : (s : List ℕ) → check s ≡ 0 → sectionNumber s ≤ keyOf s .last
 unfolding keyOf
 in-order s p = sound s p .order
 
-nowhere : {f : ℕ} → Nowhere ≡ From f → ⊥
+pub nowhere : {f : ℕ} → Nowhere ≡ From f → ⊥
 nowhere p = let z : _≡_ {A = ℕ} 0 1 = cc in omega arith
 
-room-bounds : (now : List ℕ) → (room now ≤ 65535) × (room now ≤ length now)
+pub room-bounds : (now : List ℕ) → (room now ≤ 65535) × (room now ≤ length now)
 unfolding room
 room-bounds now = (omega arith, omega arith)
 
