@@ -3,3 +3,4 @@ pub mod Keys
 pub mod Runs
 pub mod Track
 pub mod Turn
+pub mod Row

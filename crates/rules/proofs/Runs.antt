@@ -39,7 +39,7 @@ pub joined-length : (xs : List (List ℕ)) (s : List ℕ) → length (joined (xs
 joined-length xs s = rw (joined-more xs s, length-append)
 
 -- ---- places in a row
-ends-size : {row : List Event} {xs : List (List ℕ)} (e : Ends row xs) → length row ≡ length (e .front) + length xs
+pub ends-size : {row : List Event} {xs : List (List ℕ)} (e : Ends row xs) → length row ≡ length (e .front) + length xs
 ends-size e = ap length (e .split) ∙ simp (length-append, length-map)
 
 -- the row's event at a place behind the front is the section there

@@ -78,8 +78,13 @@ module _ (c : Settings) (b : List ℕ) where
       let l = t .laid in
       let size : length (joined (l .sections)) ≤ 4080 * length (l .sections) = run-bytes c b (l .run .run) in
       let last : κ .last + 1 ≤ c .limit = within (l .run) (omega (arith, l .count, t .some)) in
-      rw (le-leb 1 e (t .some), le-leb e (κ .last) (t .partial), le-leb (κ .last) 254 (omega (arith, limit-small c p)),
-      le-leb f 65535 (omega (arith, l .filled, l .run .run .fits, room-bounds b .0)), le-leb f (4080 * e) (omega (arith, l .filled, l .count)))
+      rw (
+        le-leb 1 e (t .some),
+        le-leb e (κ .last) (t .partial),
+        le-leb (κ .last) 254 (omega (arith, limit-small c p)),
+        le-leb f 65535 (omega (arith, l .filled, l .run .run .fits, room-bounds b .0)),
+        le-leb f (4080 * e) (omega (arith, l .filled, l .count)),
+      )
 
   -- ---- the place of a section's payload
   -- a section that goes on with a run that the row ends in has its place behind that run
@@ -92,8 +97,11 @@ module _ (c : Settings) (b : List ℕ) where
   placed row (Open next filled μ) now {κ} (x ∷ xs) s t e p =
       let same : Same c b μ κ (t .laid .sections) (x ∷ xs) = only c b (t .laid .run) e (omega (arith, t .laid .count, t .some)) (omega arith) in
       let n : sectionNumber s ≡ next = p .numbered ∙ ap length (sym (same .sections)) ∙ t .laid .count in
-      rw (ne-eqb (sectionNumber s) 0 (λ z. omega (arith, n, t .some)), eq-eqb (sectionNumber s) next n,
-      key-same (keyOf s) μ (p .agrees ∙ sym (same .key)))
+      rw (
+        ne-eqb (sectionNumber s) 0 (λ z. omega (arith, n, t .some)),
+        eq-eqb (sectionNumber s) next n,
+        key-same (keyOf s) μ (p .agrees ∙ sym (same .key)),
+      )
       (ap From (sym (t .laid .filled) ∙ ap (λ (v : List (List ℕ)). length (joined v)) (same .sections)))
 
   -- a section that has a place goes on with a run that the row ends in

@@ -46,11 +46,12 @@ finish-hands : (filled : ℕ) (b p : List ℕ) → filled ≤ length b → take 
     → (handed (finish filled b) ≡ datagram n d) ↔ Carries p n d
 unfolding finish handedBy unit
 finish-hands filled b p h e n d =
-    let size : length (take filled b) ≡ filled = length-take-le filled b h in
-    (λ q. let n-is : n ≡ filled = cc in let d-is : d ≡ take filled b = cc in record { bytes = cc; size = cc },
-    λ q. let d-is : take filled b ≡ d = cc in let n-is : filled ≡ n = cc in cc)
+    let size : length (take filled b) ≡ filled = length-take-le filled b h in (
+      λ q. let n-is : n ≡ filled = cc in let d-is : d ≡ take filled b = cc in record { bytes = cc; size = cc },
+      λ q. let d-is : take filled b ≡ d = cc in let n-is : filled ≡ n = cc in cc,
+    )
 
-no-datagram : {n : ℕ} {d : List ℕ} → nothing ≡ datagram n d → ⊥
+pub no-datagram : {n : ℕ} {d : List ℕ} → nothing ≡ datagram n d → ⊥
 no-datagram p = let z : _≡_ {A = ℕ} 0 1 = cc in omega arith
 
 -- ---- a choice that is taken apart
@@ -141,24 +142,26 @@ module _ (c : Settings) (b : List ℕ) where
   exactly-then {past} {now} {s} (finished {f = f} {after = after} a size whole) n d =
       let fits : f ≤ length after = omega (arith, a .filled, a .run .run .fits, room-bounds b .1) in
       let hands = finish-hands f after (joined (a .sections)) fits (a .bytes) n d in
-      let limit : keyOf s .last + 1 ≤ c .limit = within c b (a .run) (omega (arith, a .count)) in
-      (λ p.
-      let q : Carries (joined (a .sections)) n d = hands .0 p in
-      record {
-        sections = a .sections;
-        run = record { key = keyOf s; run = a .run .run; whole = omega (arith, a .count); within = omega (arith, a .count) };
-        there = a .run .there;
-        bytes = q .bytes;
-        size = q .size;
-      },
-      λ w.
-      let same = only c b (ready-run w) (a .run) (omega (arith, w .run .whole)) (omega (arith, a .count)) in
-      hands .1 (record { bytes = rw (same .sections) at (w .bytes); size = w .size }))
-  exactly-then (stored a size part) n d =
-      (λ p. absurd (no-datagram p),
-      λ w.
-      let same = only c b (ready-run w) (a .run) (omega (arith, w .run .whole)) (omega (arith, a .count)) in
-      absurd (omega (arith, w .run .whole, ap length (same .sections), ap (λ (κ : Key). κ .last) (same .key), a .count)))
+      let limit : keyOf s .last + 1 ≤ c .limit = within c b (a .run) (omega (arith, a .count)) in (
+        λ p.
+            let q : Carries (joined (a .sections)) n d = hands .0 p in
+            record {
+              sections = a .sections;
+              run = record { key = keyOf s; run = a .run .run; whole = omega (arith, a .count); within = omega (arith, a .count) };
+              there = a .run .there;
+              bytes = q .bytes;
+              size = q .size;
+            },
+        λ w.
+            let same = only c b (ready-run w) (a .run) (omega (arith, w .run .whole)) (omega (arith, a .count)) in
+            hands .1 (record { bytes = rw (same .sections) at (w .bytes); size = w .size }),
+      )
+  exactly-then (stored a size part) n d = (
+    λ p. absurd (no-datagram p),
+    λ w.
+        let same = only c b (ready-run w) (a .run) (omega (arith, w .run .whole)) (omega (arith, a .count)) in
+        absurd (omega (arith, w .run .whole, ap length (same .sections), ap (λ (κ : Key). κ .last) (same .key), a .count)),
+  )
 
   module _ (past : List Event) (h : Held) (i : Holds past h) (s : List ℕ) where
     abbrev Does : Outcome → Type 0
