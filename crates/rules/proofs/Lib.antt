@@ -2,5 +2,6 @@ pub mod Sound
 pub mod Keys
 pub mod Runs
 pub mod Track
+pub mod Finish
 pub mod Turn
 pub mod Row

@@ -14,7 +14,7 @@ use Rattle.rules.specs.Step.{gapOf, goodSettings, goodState, stepOf}
 use Rattle.rules.specs.Row.{Event, section, gap, Held, fresh, next, after, nothing, datagram, handedBy, handedOver, elsewhere, strike, Ends, WholeRun, Ready, AtEvent, Once, Demand3, RowTheorem}
 use Rattle.rules.proofs.Runs.{EndsIn, ends-size, no-gap, only, apart}
 use Rattle.rules.proofs.Track.{good-state}
-use Rattle.rules.proofs.Turn.{handed, held, no-datagram, passes, Holds, holds-after, exactly-then, turn}
+use Rattle.rules.proofs.Turn.{no-datagram, passes, Holds, holds-after, exactly-then, turn}
 
 -- ---- the struck row
 strike-append : (c : Settings) (r q : List Event) → strike c (r ++ q) ≡ strike c r ++ strike c q

@@ -10,8 +10,8 @@ use lib.ListN.{length, take}
 use lib.Seq.{length-paste, length-take-le}
 use lib.Dec.{eqb, leb}
 use borrow.Author.Tests.{eqb-true, eqb-false, eq-eqb, leb-true, leb-false, not-true}
-use Rattle.wire.specs.Choice.{pick, both, Line, first, firstOf}
-use Rattle.wire.proofs.Choice.{never, was}
+use Rattle.wire.specs.Choice.{pick, both, line, first, firstOf}
+use Rattle.wire.proofs.Choice.{never}
 use Rattle.rules.specs.declared.Settings.{Settings}
 use Rattle.rules.specs.declared.Key.{Key}
 use Rattle.rules.specs.declared.State.{State}
@@ -22,34 +22,9 @@ use Rattle.rules.specs.Check.{check, checkLines}
 use Rattle.rules.specs.Step.{bar, barLines, finish, goodSettings, goodState, keep, keyOf, laid, lay, Place, Nowhere, From, Outcome, ours, outcome, place, refuse, refuseFirst, room, stepOf}
 use Rattle.rules.specs.Row.{Event, section, Held, Handed, nothing, datagram, handedBy, elsewhere, joined, unit, Receivable, Piece, WholeRun, Ready}
 use Rattle.rules.proofs.Sound.{both-true}
+use Rattle.rules.proofs.Finish.{handed, held, Carries, finish-held, finish-hands}
 use Rattle.rules.proofs.Runs.{EndsIn, Less, less, Same, only}
 use Rattle.rules.proofs.Track.{Laid, OpenRun, Track, good-state, in-order, nowhere, room-bounds, within, placed, follows, grown}
-
-abbrev pub handed : Outcome → Handed
-handed o = handedBy (o .step .answer) (o .buffer)
-
-abbrev pub held : Outcome → Held
-held o = record { state = o .step .state; buffer = o .buffer }
-
--- ---- the end of a unit
--- n bytes d are the unit of these joined payloads
-record Carries (p : List ℕ) (n : ℕ) (d : List ℕ) : Type 0 where
-  bytes : d ≡ unit p
-  size : n ≡ length d
-
-finish-held : (filled : ℕ) (b : List ℕ) → held (finish filled b) ≡ record { state = Idle; buffer = b }
-unfolding finish
-finish-held filled b = refl
-
--- the unit of what is filled is handed over, and nothing else
-finish-hands : (filled : ℕ) (b p : List ℕ) → filled ≤ length b → take filled b ≡ p → (n : ℕ) (d : List ℕ)
-    → (handed (finish filled b) ≡ datagram n d) ↔ Carries p n d
-unfolding finish handedBy unit
-finish-hands filled b p h e n d =
-    let size : length (take filled b) ≡ filled = length-take-le filled b h in (
-      λ q. let n-is : n ≡ filled = cc in let d-is : d ≡ take filled b = cc in record { bytes = cc; size = cc },
-      λ q. let d-is : take filled b ≡ d = cc in let n-is : filled ≡ n = cc in cc,
-    )
 
 pub no-datagram : {n : ℕ} {d : List ℕ} → nothing ≡ datagram n d → ⊥
 no-datagram p = let z : _≡_ {A = ℕ} 0 1 = cc in omega arith
@@ -60,30 +35,24 @@ unfolding pick
 pick-case P true o u f g = f refl
 pick-case P false o u f g = g refl
 
-refuse-case : (P : Outcome → Type 0) (lines : List Line) (b : List ℕ) (o : Outcome) → (firstOf lines ≡ 0 → P o)
-    → ((firstOf lines ≡ 0 → ⊥) → P (refuse (firstOf lines) b)) → P (refuseFirst lines b o)
-unfolding refuseFirst
-refuse-case P lines b o f g = pick-case P (eqb (firstOf lines) 0) o _ (λ p. f (eqb-true _ _ p)) (λ p. g (eqb-false _ _ p))
-
 -- ---- the step
--- what is left where neither 10 nor 11 applies
-step-good : (c : Settings) (σ : State) (s b : List ℕ) → goodSettings c ≡ true → goodState σ ≡ true
-    → stepOf c σ s b
-    ≡ refuseFirst (checkLines s) b (pick (ours c s) (refuseFirst (barLines c s) b (lay (place σ s) s b)) (outcome PassedBy σ b))
-unfolding stepOf refuseFirst pick firstOf first
-step-good c σ s b p q = rw (p, q)
+-- neither 10 nor 11
+settled : (c : Settings) (σ : State) → goodSettings c ≡ true → goodState σ ≡ true
+    → firstOf (line 10 (not (goodSettings c)) ∷ line 11 (not (goodState σ)) ∷ []) ≡ 0
+unfolding firstOf first
+settled c σ p q = rw (p, q)
 
 struck-is : (c : Settings) (s : List ℕ) → check s ≡ 0 → ours c s ≡ false → elsewhere c (section s) ≡ true
 unfolding elsewhere both
 struck-is c s p q = rw (p, q)
 
 -- a struck section is passed by
-pub passes : (c : Settings) (σ : State) (s b : List ℕ) → goodSettings c ≡ true → goodState σ ≡ true → elsewhere c (section s) ≡ true
-    → stepOf c σ s b ≡ outcome PassedBy σ b
-unfolding check elsewhere refuseFirst pick
+pub passes : (c : Settings) (σ : State) (s b : List ℕ) → goodSettings c ≡ true → goodState σ ≡ true
+    → elsewhere c (section s) ≡ true → stepOf c σ s b ≡ outcome PassedBy σ b
+unfolding check elsewhere stepOf refuseFirst pick
 passes c σ s b good fine struck =
     let parts = both-true _ _ struck in
-    step-good c σ s b good fine ∙ rw (parts .0, not-true (ours c s) (parts .1))
+    rw (settled c σ good fine, parts .0, not-true (ours c s) (parts .1))
 
 room-same : (a b : List ℕ) → length a ≡ length b → room a ≡ room b
 unfolding room
@@ -180,11 +149,11 @@ module _ (c : Settings) (b : List ℕ) where
     lays k Nowhere q = refusing (λ κ l. nowhere (place-is Nowhere q l))
     lays k (From f) q =
         let rooms : room (h .buffer) ≡ room b = room-same (h .buffer) b (i .size) in
-        pick-case Does (leb (f + length (payload s)) (room (h .buffer))) _ _ (λ t.
+        pick-case Does _ _ _ (λ t.
         let fits : f + length (payload s) ≤ room (h .buffer) = leb-true _ _ t in
         let a = grown c b past (h .buffer) s f k (follows c b past (h .state) (h .buffer) s f (i .track) q) (omega arith) (i .size) in
         let size : length (laid f s (h .buffer)) ≡ length b = laid-length f s (h .buffer) (omega (arith, room-bounds (h .buffer) .1)) ∙ i .size in
-        pick-case Does (eqb (sectionNumber s) (lastSectionNumber s)) _ _ (λ u. finished a size (eqb-true _ _ u ∙ sym (key-last s)))
+        pick-case Does _ _ _ (λ u. finished a size (eqb-true _ _ u ∙ sym (key-last s)))
         (λ u. stored a size (below (in-order s (k .sound)) (λ e. eqb-false _ _ u (e ∙ key-last s)))))
         (λ t. refusing (λ κ l.
         let over : room (h .buffer) < f + length (payload s) = leb-false _ _ t in
@@ -192,17 +161,16 @@ module _ (c : Settings) (b : List ℕ) where
         let f-is : f ≡ length (joined (l .init)) = cc in
         omega (arith, l .fits)))
 
-    good-then : goodSettings c ≡ true → goodState (h .state) ≡ true
-    good-then good = good-state c b past (h .state) (h .buffer) good (i .track)
-
     pub turn : goodSettings c ≡ true → elsewhere c (section s) ≡ false → Does (stepOf c (h .state) s (h .buffer))
-    unfolding check bar
+    unfolding check bar stepOf refuseFirst
     turn good kept =
-        rw (step-good c (h .state) s (h .buffer) good (good-then good))
-        (refuse-case Does (checkLines s) (h .buffer) _ (λ sound.
-        pick-case Does (ours c s) _ _ (λ address.
-        refuse-case Does (barLines c s) (h .buffer) _
-        (λ free. lays (record { sound = sound; address = address; free = free }) (place (h .state) s) refl)
-        (λ barred. refusing (λ κ l. barred (l .piece .receivable .free))))
-        (λ foreign. absurd (never (sym kept ∙ struck-is c s sound foreign))))
-        (λ faulty. refusing (λ κ l. faulty (l .piece .receivable .sound))))
+        let fine : goodState (h .state) ≡ true = good-state c b past (h .state) (h .buffer) good (i .track) in
+        pick-case Does _ _ _ (λ t.
+        pick-case Does _ _ _ (λ sound.
+        pick-case Does _ _ _ (λ address.
+        pick-case Does _ _ _ (λ free.
+        lays (record { sound = eqb-true _ _ sound; address = address; free = eqb-true _ _ free }) (place (h .state) s) refl)
+        (λ barred. refusing (λ κ l. eqb-false _ _ barred (l .piece .receivable .free))))
+        (λ foreign. absurd (never (sym kept ∙ struck-is c s (eqb-true _ _ sound) foreign))))
+        (λ faulty. refusing (λ κ l. eqb-false _ _ faulty (l .piece .receivable .sound))))
+        (λ bad. absurd (eqb-false _ _ bad (settled c (h .state) good fine)))
