@@ -3,5 +3,5 @@ pub mod Keys
 pub mod Runs
 pub mod Track
 pub mod Finish
-pub mod Turn
+pub mod Due
 pub mod Row

@@ -14,7 +14,7 @@ use Rattle.rules.specs.Step.{gapOf, goodSettings, goodState, stepOf}
 use Rattle.rules.specs.Row.{Event, section, gap, Held, fresh, next, after, nothing, datagram, handedBy, handedOver, elsewhere, strike, Ends, WholeRun, Ready, AtEvent, Once, Demand3, RowTheorem}
 use Rattle.rules.proofs.Runs.{EndsIn, ends-size, no-gap, only, apart}
 use Rattle.rules.proofs.Track.{good-state}
-use Rattle.rules.proofs.Turn.{no-datagram, passes, Holds, holds-after, exactly-then, turn}
+use Rattle.rules.proofs.Due.{no-datagram, passes, Holds, due-holds, due-hands, due}
 
 -- ---- the struck row
 strike-append : (c : Settings) (r q : List Event) → strike c (r ++ q) ≡ strike c r ++ strike c q
@@ -56,13 +56,13 @@ module _ (c : Settings) (b : List ℕ) (good : goodSettings c ≡ true) where
   -- ---- any other event
   kept-holds : (past : List Event) (h : Held) (e : Event) → Holds c b past h → elsewhere c e ≡ false → Holds c b (past ++ (e ∷ [])) (next c h e)
   unfolding next gapOf
-  kept-holds past h (section s) i kept = holds-after c b (i .size) (turn c b past h i s good kept)
+  kept-holds past h (section s) i kept = due-holds c b (i .size) (due c b past h i s good kept)
   kept-holds past h gap i kept = record { size = i .size; track = λ κ xs e some partial. no-gap c b past (e .there) some }
 
   kept-hands : (past : List Event) (h : Held) (e : Event) → Holds c b past h → elsewhere c e ≡ false → (n : ℕ) (d : List ℕ)
       → (handedOver c h e ≡ datagram n d) ↔ Ready c b (past ++ (e ∷ [])) n d
   unfolding handedOver
-  kept-hands past h (section s) i kept n d = exactly-then c b (turn c b past h i s good kept) n d
+  kept-hands past h (section s) i kept n d = due-hands c b (due c b past h i s good kept) n d
   kept-hands past h gap i kept n d =
       (λ p. absurd (no-datagram p), λ w. absurd (no-gap c b past (w .there) (omega (arith, w .run .whole))))
 
