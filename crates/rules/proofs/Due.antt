@@ -1,5 +1,4 @@
--- A section that is not struck finishes the run that the row ends in with it, or is stored in it, or there is no such run and it is
--- refused: each answer's test says which.
+-- The tests behind an answer say whether the row ends in a run with the section, and whether that run is whole.
 use Prim.Native.Nat.{ℕ, _+_, _≤_, _<_}
 use native.Mathlib.Omega.{arith}
 use mathlib.Core.Path.{_≡_, refl, ap, sym, _∙_}
@@ -17,13 +16,14 @@ use Rattle.rules.specs.declared.State.the-variants.{Open}
 use Rattle.rules.specs.declared.Answer.the-variants.{Stored, PassedBy}
 use Rattle.rules.specs.Section.{sectionNumber, payload}
 use Rattle.rules.specs.Check.{check}
-use Rattle.rules.specs.Step.{bar, finish, goodSettings, goodState, keep, keyOf, laid, lay, Place, Nowhere, From, place, room}
+use Rattle.rules.specs.Step.{bar, finish, goodSettings, goodState, keep, keyOf, lay, Place, Nowhere, From, place, room}
 use Rattle.rules.specs.Step.{Outcome, ours, outcome, refuse, refuseFirst, stepOf}
-use Rattle.rules.specs.Row.{Event, section, Held, nothing, datagram, handedBy, elsewhere, joined, Receivable, WholeRun, Ready}
+use Rattle.rules.specs.Row.{Event, section, Held, nothing, datagram, handedBy, elsewhere, joined}
+use Rattle.rules.specs.Row.{Receivable, WholeRun, Ready}
 use Rattle.rules.proofs.Sound.{both-true}
-use Rattle.rules.proofs.Runs.{EndsIn, Less, less, Same, only}
+use Rattle.rules.proofs.Runs.{EndsIn, Next, next, only}
 use Rattle.rules.proofs.Track.{key-last, in-order, room-bounds, room-same, laid-length, nowhere}
-use Rattle.rules.proofs.Track.{Gathered, OpenRun, Track, within, good-state, follows, placed, grown}
+use Rattle.rules.proofs.Track.{Gathered, Track, within, good-state, follows, placed, grown}
 use Rattle.rules.proofs.Finish.{handed, held, Carries, finish-held, finish-hands}
 
 pub no-datagram : {n : ℕ} {d : List ℕ} → nothing ≡ datagram n d → ⊥
@@ -93,26 +93,29 @@ module _ (c : Settings) (b : List ℕ) where
   pub due-hands : {past : List Event} {now s : List ℕ} {o : Outcome} → Due past now s o → (n : ℕ) (d : List ℕ)
       → (handed o ≡ datagram n d) ↔ Ready c b (past ++ (section s ∷ [])) n d
   unfolding handedBy
-  due-hands (refused never-ends) n d =
-      (λ p. absurd (no-datagram p),
-      λ w. absurd (never-ends (w .run .key) (w .sections) (ready-run w) (omega (arith, w .run .whole))))
+  due-hands (refused never-ends) n d = (
+    λ p. absurd (no-datagram p),
+    λ w. absurd (never-ends (w .run .key) (w .sections) (ready-run w) (omega (arith, w .run .whole))),
+  )
   due-hands {past} {now} {s} (finished {f = f} {after = after} size g last) n d =
       let fits : f ≤ length after = omega (arith, g .filled, g .run .run .fits, room-bounds b .1) in
       let hands = finish-hands f after (joined (g .sections)) fits (g .bytes) n d in
       let limit : keyOf s .last + 1 ≤ c .limit = within c b (g .run) (omega (arith, g .count)) in
       let whole : WholeRun c b (g .sections) =
-      record { key = keyOf s; run = g .run .run; whole = omega (arith, g .count); within = omega (arith, g .count) } in
-      (λ p.
-      let q : Carries (joined (g .sections)) n d = hands .0 p in
-      record { sections = g .sections; run = whole; there = g .run .there; bytes = q .bytes; size = q .size },
-      λ w.
-      let same = only c b (ready-run w) (g .run) (omega (arith, w .run .whole)) (omega (arith, g .count)) in
-      hands .1 (record { bytes = rw (same .sections) at (w .bytes); size = w .size }))
-  due-hands (stored size g part) n d =
-      (λ p. absurd (no-datagram p),
-      λ w.
-      let same = only c b (ready-run w) (g .run) (omega (arith, w .run .whole)) (omega (arith, g .count)) in
-      absurd (omega (arith, w .run .whole, ap length (same .sections), ap (λ (κ : Key). κ .last) (same .key), g .count)))
+      record { key = keyOf s; run = g .run .run; whole = omega (arith, g .count); within = omega (arith, g .count) } in (
+        λ p.
+            let q : Carries (joined (g .sections)) n d = hands .0 p in
+            record { sections = g .sections; run = whole; there = g .run .there; bytes = q .bytes; size = q .size },
+        λ w.
+            let same = only c b (ready-run w) (g .run) (omega (arith, w .run .whole)) (omega (arith, g .count)) in
+            hands .1 (record { bytes = rw (same .sections) at (w .bytes); size = w .size }),
+      )
+  due-hands (stored size g part) n d = (
+    λ p. absurd (no-datagram p),
+    λ w.
+        let same = only c b (ready-run w) (g .run) (omega (arith, w .run .whole)) (omega (arith, g .count)) in
+        absurd (omega (arith, w .run .whole, ap length (same .sections), ap (λ (κ : Key). κ .last) (same .key), g .count)),
+  )
 
   -- ---- the step's outcome is due
   module _ (past : List Event) (h : Held) (i : Holds past h) (s : List ℕ) where
@@ -120,11 +123,11 @@ module _ (c : Settings) (b : List ℕ) where
     Here o = Due past (h .buffer) s o
 
     -- where s is no next section of a run that the row ends in, it is refused
-    refusing : {n : ℕ} → ((κ : Key) → Less c b past s κ → ⊥) → Here (refuse n (h .buffer))
-    refusing no-next = refused (λ κ xs e some. no-next κ (less c b e some))
+    refusing : {n : ℕ} → ((κ : Key) → Next c b past s κ → ⊥) → Here (refuse n (h .buffer))
+    refusing no-next = refused (λ κ xs e some. no-next κ (next c b e some))
 
     -- the place that a run asks for is the place that there is
-    place-is : (p : Place) → place (h .state) s ≡ p → {κ : Key} (l : Less c b past s κ) → p ≡ From (length (joined (l .init)))
+    place-is : (p : Place) → place (h .state) s ≡ p → {κ : Key} (l : Next c b past s κ) → p ≡ From (length (joined (l .init)))
     place-is p q l = sym q ∙ placed c b past (h .state) (h .buffer) s (l .init) (i .track) (l .before) (l .piece)
 
     keeps : Receivable c s → (f : ℕ) → place (h .state) s ≡ From f → f + length (payload s) ≤ room (h .buffer)

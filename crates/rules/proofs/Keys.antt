@@ -1,8 +1,6 @@
 -- The test of two keys holds exactly where the keys are equal, since it compares every field.
-use Prim.Native.Nat.{ℕ}
 use mathlib.Core.Path.{_≡_, refl}
 use mathlib.Core.Bool.{Bool, true, false, Bool·beq}
-use lib.Dec.{eqb}
 use borrow.Author.Tests.{eqb-true, eq-eqb}
 use Rattle.wire.specs.Choice.{both}
 use Rattle.rules.specs.declared.Key.{Key}

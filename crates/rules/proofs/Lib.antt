@@ -1,5 +1,6 @@
 pub mod Sound
 pub mod Keys
+pub mod Lists
 pub mod Runs
 pub mod Track
 pub mod Finish

@@ -3,15 +3,15 @@ use Prim.Native.Nat.{ℕ, _+_, _-_, _≤_, _<_}
 use native.Mathlib.Decide.{ℕ-discrete}
 use native.Mathlib.Omega.{arith}
 use mathlib.Core.Path.{_≡_, refl, sym, _∙_}
-use mathlib.Core.Bool.{Bool, true, false, not}
-use mathlib.Core.List.{List, [], _∷_, _++_}
+use mathlib.Core.Bool.{Bool, true, false}
+use mathlib.Core.List.{List, _∷_, _++_}
 use lib.ListN.{length, length-take, length-drop}
-use lib.Dec.{eqb, ltb}
 use borrow.Author.Tests.{ltb-false, eqb-true, not-false}
 use Rattle.wire.specs.Choice.{both, either, Line, first, firstOf, numbered}
 use Rattle.wire.proofs.Choice.{never, firstOf-here, firstOf-past}
 use Rattle.rules.specs.Section.{sectionLength, sectionNumber, lastSectionNumber, payload}
-use Rattle.rules.specs.Check.{tooShort, wrongLength, outOfOrder, addressScrambled, formLines, orderLines, faultLines, checkLines, check, datagramForm}
+use Rattle.rules.specs.Check.{tooShort, wrongLength, outOfOrder, addressScrambled, datagramForm}
+use Rattle.rules.specs.Check.{formLines, orderLines, faultLines, checkLines, check}
 
 -- ---- a test that is taken apart
 pub both-true : (t u : Bool) → both t u ≡ true → (t ≡ true) × (u ≡ true)
@@ -30,7 +30,8 @@ unfolding first
 first-none true n rest h p = absurd (omega arith)
 first-none false n rest h p = (refl, p)
 
-pub none-first : (l : Line) (rest : List Line) → 0 < l .number → firstOf (l ∷ rest) ≡ 0 → (l .applies ≡ false) × (firstOf rest ≡ 0)
+pub none-first : (l : Line) (rest : List Line) → 0 < l .number → firstOf (l ∷ rest) ≡ 0
+    → (l .applies ≡ false) × (firstOf rest ≡ 0)
 unfolding firstOf
 none-first l rest h p = first-none (l .applies) (l .number) (firstOf rest) h p
 

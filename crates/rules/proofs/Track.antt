@@ -1,5 +1,4 @@
--- A section has a place exactly where it goes on with a run that the row ends in, since the state says the next number, the filled
--- bytes and the key of that run.
+-- A section has a place exactly where it goes on with a run that the row ends in, since the state says which run that is.
 use Prim.Native.Nat.{ℕ, _+_, _*_, _≤_, _<_}
 use native.Mathlib.Nat.{le-refl}
 use native.Mathlib.Omega.{arith}
@@ -18,11 +17,12 @@ use Rattle.rules.specs.declared.State.the-variants.{Idle, Open}
 use Rattle.rules.specs.Check.{check}
 use Rattle.rules.specs.Section.{sectionNumber, lastSectionNumber, payload}
 use Rattle.rules.specs.Step.{bar, barLines, continues, goodRun, goodSettings, goodState, keyOf, laid, onward, overLimit}
-use Rattle.rules.specs.Step.{Place, Nowhere, From, place, room}
+use Rattle.rules.specs.Step.{Nowhere, From, place, room}
 use Rattle.rules.specs.Row.{Event, section, joined, Receivable, Piece}
+use Rattle.rules.proofs.Lists.{length-more}
 use Rattle.rules.proofs.Keys.{same-key, key-same}
 use Rattle.rules.proofs.Sound.{sound, both-true, none-first}
-use Rattle.rules.proofs.Runs.{EndsIn, Same, none, more, only, run-bytes, joined-more, joined-length, length-more}
+use Rattle.rules.proofs.Runs.{EndsIn, Same, none, more, only, run-bytes, joined-more, joined-length}
 
 -- ---- what the row theory knows of a section's numbers, of the limit, of the room and of the buffer
 pub key-last : (s : List ℕ) → keyOf s .last ≡ lastSectionNumber s
@@ -98,9 +98,13 @@ module _ (c : Settings) (b : List ℕ) where
       let g = t .gathered in
       let size : length (joined (g .sections)) ≤ 4080 * length (g .sections) = run-bytes c b (g .run .run) in
       let last : κ .last + 1 ≤ c .limit = within (g .run) (omega (arith, g .count, t .some)) in
-      rw (le-leb 1 e (t .some), le-leb e (κ .last) (t .partial), le-leb (κ .last) 254 (omega (arith, limit-small c p)),
-      le-leb f 65535 (omega (arith, g .filled, g .run .run .fits, room-bounds b .0)),
-      le-leb f (4080 * e) (omega (arith, g .filled, g .count)))
+      rw (
+        le-leb 1 e (t .some),
+        le-leb e (κ .last) (t .partial),
+        le-leb (κ .last) 254 (omega (arith, limit-small c p)),
+        le-leb f 65535 (omega (arith, g .filled, g .run .run .fits, room-bounds b .0)),
+        le-leb f (4080 * e) (omega (arith, g .filled, g .count)),
+      )
 
   -- ---- the place of a section's payload
   -- a section that has a place goes on with a run that the row ends in
@@ -141,8 +145,11 @@ module _ (c : Settings) (b : List ℕ) where
       let g = t .gathered in
       let same : Same c b μ κ (g .sections) (x ∷ xs) = only c b (g .run) e (omega (arith, g .count, t .some)) (omega arith) in
       let n : sectionNumber s ≡ e′ = p .numbered ∙ ap length (sym (same .sections)) ∙ g .count in
-      rw (ne-eqb (sectionNumber s) 0 (λ z. omega (arith, n, t .some)), eq-eqb (sectionNumber s) e′ n,
-      key-same (keyOf s) μ (p .agrees ∙ sym (same .key)))
+      rw (
+        ne-eqb (sectionNumber s) 0 (λ z. omega (arith, n, t .some)),
+        eq-eqb (sectionNumber s) e′ n,
+        key-same (keyOf s) μ (p .agrees ∙ sym (same .key)),
+      )
       (ap From (sym (g .filled) ∙ ap (λ (v : List (List ℕ)). length (joined v)) (same .sections)))
 
   -- the payload is laid behind what is gathered
