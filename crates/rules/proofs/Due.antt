@@ -24,7 +24,7 @@ use Rattle.rules.proofs.Sound.{both-true}
 use Rattle.rules.proofs.Runs.{EndsIn, Next, next, only}
 use Rattle.rules.proofs.Track.{key-last, in-order, room-bounds, room-same, laid-length, nowhere}
 use Rattle.rules.proofs.Track.{Gathered, Track, within, good-state, follows, placed, grown}
-use Rattle.rules.proofs.Finish.{handed, held, Carries, finish-held, finish-hands}
+use Rattle.rules.proofs.Finish.{handed, held, carried, ready, finish-held, finish-hands}
 
 pub no-datagram : {n : ℕ} {d : List ℕ} → nothing ≡ datagram n d → ⊥
 no-datagram p = let z : _≡_ {A = ℕ} 0 1 = cc in omega arith
@@ -103,12 +103,10 @@ module _ (c : Settings) (b : List ℕ) where
       let limit : keyOf s .last + 1 ≤ c .limit = within c b (g .run) (omega (arith, g .count)) in
       let whole : WholeRun c b (g .sections) =
       record { key = keyOf s; run = g .run .run; whole = omega (arith, g .count); within = omega (arith, g .count) } in (
-        λ p.
-            let q : Carries (joined (g .sections)) n d = hands .0 p in
-            record { sections = g .sections; run = whole; there = g .run .there; bytes = q .bytes; size = q .size },
+        λ p. ready whole (g .run .there) (hands .0 p),
         λ w.
             let same = only c b (ready-run w) (g .run) (omega (arith, w .run .whole)) (omega (arith, g .count)) in
-            hands .1 (record { bytes = rw (same .sections) at (w .bytes); size = w .size }),
+            hands .1 (rw (same .sections) at (carried w)),
       )
   due-hands (stored size g part) n d = (
     λ p. absurd (no-datagram p),
