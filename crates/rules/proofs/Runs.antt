@@ -66,6 +66,9 @@ module _ (c : Settings) (b : List ℕ) where
     pub run : Run c b κ xs
     pub there : Ends row xs
 
+  abbrev pub whole-ends : {row : List Event} {xs : List (List ℕ)} (u : WholeRun c b xs) → Ends row xs → EndsIn row (u .key) xs
+  whole-ends u e = record { run = u .run; there = e }
+
   -- ---- one section more
   pub none : (row : List Event) (κ : Key) → EndsIn row κ []
   unfolding joined
@@ -166,13 +169,12 @@ module _ (c : Settings) (b : List ℕ) where
   -- of two whole runs in one row, the later begins behind the end of the earlier
   pub apart : (row later : List Event) {xs ys : List (List ℕ)} → WholeRun c b xs → WholeRun c b ys → Ends row xs
       → (y : Ends (row ++ later) ys) → 0 < length later → length row ≤ length (y .front)
-  apart row later {xs} {ys} u v x y more = go (decLe (length row) (length (y .front)))
+  apart row later {xs} {ys} u v x y longer = go (decLe (length row) (length (y .front)))
     where
       go : Dec (length row ≤ length (y .front)) → length row ≤ length (y .front)
       go (yes h) = h
       go (no h) =
           let s =
-          shared later (record { run = u .run; there = x }) (record { run = v .run; there = y })
-          (omega (arith, u .whole)) (omega arith) in
+          shared later (whole-ends u x) (whole-ends v y) (omega (arith, u .whole)) (omega arith) in
           let last : u .key .last ≡ v .key .last = ap (λ (κ : Key). κ .last) (s .1) in
           absurd (omega (arith, s .0, ends-size x, ends-size y, length-append row later, u .whole, v .whole))
