@@ -1,3 +1,11 @@
 pub mod Check
 pub mod Crc
+pub mod Due
+pub mod Finish
+pub mod Keys
+pub mod Lists
+pub mod Row
+pub mod Runs
+pub mod Sound
+pub mod Track
 pub mod Written
