@@ -8,7 +8,7 @@ use mathlib.Core.List.{List, [], _∷_, _++_}
 use lib.ListN.{length}
 use borrow.Author.Tests.{eqb-true, eqb-false, leb-true, leb-false, not-true}
 use Rattle.wire.specs.Choice.{pick, both, line, first, firstOf}
-use Rattle.wire.proofs.Choice.{never}
+use Rattle.wire.proofs.Choice.{both-true, never}
 use Rattle.rules.specs.declared.Settings.{Settings}
 use Rattle.rules.specs.declared.Key.{Key}
 use Rattle.rules.specs.declared.State.{State}
@@ -20,7 +20,6 @@ use Rattle.rules.specs.Step.{bar, finish, goodSettings, goodState, keep,
 use Rattle.rules.specs.Step.{Outcome, ours, outcome, refuse, refuseFirst, stepOf}
 use Rattle.rules.specs.Row.{Event, section, Held, nothing, datagram, handedBy, elsewhere, joined}
 use Rattle.rules.specs.Row.{Receivable, WholeRun, Ready}
-use Rattle.rules.proofs.Sound.{both-true}
 use Rattle.rules.proofs.Runs.{EndsIn, Next, next, Same, only, whole-ends}
 use Rattle.rules.proofs.Track.{key-last, in-order, room-bounds, room-same, laid-length, nowhere}
 use Rattle.rules.proofs.Track.{Gathered, Track, within, good-state, follows, placed, grown}

@@ -5,7 +5,7 @@ use borrow.Author.Tests.{eqb-true, eq-eqb}
 use Rattle.wire.specs.Choice.{both}
 use Rattle.rules.specs.declared.Key.{Key}
 use Rattle.rules.specs.Step.{sameKey}
-use Rattle.rules.proofs.Sound.{both-true}
+use Rattle.wire.proofs.Choice.{both-true}
 
 flag-true : (t u : Bool) → Bool·beq t u ≡ true → t ≡ u
 flag-true true true p = refl

@@ -21,7 +21,8 @@ use Rattle.rules.specs.Step.{Nowhere, From, place, room}
 use Rattle.rules.specs.Row.{Event, section, joined, Receivable, Piece}
 use Rattle.rules.proofs.Lists.{length-more}
 use Rattle.rules.proofs.Keys.{same-key, key-same}
-use Rattle.rules.proofs.Sound.{sound, both-true, none-first}
+use Rattle.wire.proofs.Choice.{both-true, none-first}
+use Rattle.rules.proofs.Sound.{sound}
 use Rattle.rules.proofs.Runs.{EndsIn, Same, none, more, only, run-bytes, joined-more, joined-length}
 
 -- ---- what the row theory knows of a section's numbers, of the limit, of the room and of the buffer

@@ -1,10 +1,11 @@
 -- A test decides a choice: each law puts the test's value in its place, and the choice computes.
-use Prim.Native.Nat.{ℕ}
+use Prim.Native.Nat.{ℕ, _<_}
 use mathlib.Core.Path.{_≡_, refl, sym, _∙_}
 use mathlib.Core.List.{List, [], _∷_, _++_}
 use mathlib.Core.Bool.{Bool, true, false, not}
 use lib.Dec.{eqb}
 use borrow.Author.Tests.{eq-eqb}
+use native.Mathlib.Decide.{ℕ-discrete}
 use native.Mathlib.Omega.{arith}
 use Rattle.wire.specs.Choice.{pick, both, either, Line, first, firstOf, numbered}
 
@@ -75,6 +76,35 @@ unfolding firstOf numbered
 firstOf-past [] b e h = refl
 firstOf-past (l ∷ a) b e h =
     past-step (l .applies) (numbered a) (l .number) (firstOf a) (firstOf (a ++ b)) (firstOf b) e h (firstOf-past a b)
+
+-- ---- a test that is taken apart
+pub both-true : (t u : Bool) → both t u ≡ true → (t ≡ true) × (u ≡ true)
+unfolding both
+both-true true u p = (refl, p)
+both-true false u p = absurd (never p)
+
+pub either-false : (t u : Bool) → either t u ≡ false → (t ≡ false) × (u ≡ false)
+unfolding either
+either-false true u p = absurd (never (sym p))
+either-false false u p = (refl, p)
+
+-- ---- a table of which no line applies
+first-none : (t : Bool) (n rest : ℕ) → 0 < n → first t n rest ≡ 0 → (t ≡ false) × (rest ≡ 0)
+unfolding first
+first-none true n rest h p = absurd (omega arith)
+first-none false n rest h p = (refl, p)
+
+pub none-first : (l : Line) (rest : List Line) → 0 < l .number → firstOf (l ∷ rest) ≡ 0
+    → (l .applies ≡ false) × (firstOf rest ≡ 0)
+unfolding firstOf
+none-first l rest h p = first-none (l .applies) (l .number) (firstOf rest) h p
+
+pub none-parts : (a b : List Line) → numbered a ≡ true → firstOf (a ++ b) ≡ 0 → (firstOf a ≡ 0) × (firstOf b ≡ 0)
+none-parts a b h p = go (ℕ-discrete (firstOf a) 0)
+  where
+    go : Dec (firstOf a ≡ 0) → (firstOf a ≡ 0) × (firstOf b ≡ 0)
+    go (yes e) = (e, sym (firstOf-past a b h e) ∙ p)
+    go (no e) = absurd (e (sym (firstOf-here a b e) ∙ p))
 
 -- what a call gave, and what was found of it
 pub was : {A : Type 0} {r t u : A} → r ≡ t → r ≡ u → t ≡ u
