@@ -3,4 +3,26 @@ use mathlib.Core.Path.{sym, _∙_}
 use Rattle.demands.specs.Tight.{Tight}
 
 pub tight : Tight
-tight = record { check = λ κs a z y e d p q. p ∙ sym q }
+tight =
+    record {
+      byte-at = λ κs a z y e d p q. p .is ∙ sym (q .is);
+      u16-at = λ κs a z y e d p q. p .is ∙ sym (q .is);
+      u32-at = λ κs a z y e d p q. p .is ∙ sym (q .is);
+      u32-bytes = λ κs a z y e d p q. p ∙ sym q;
+      smaller = λ κs a z y e d p q. p ∙ sym q;
+      both = λ κs a z y e d p q. p ∙ sym q;
+      either = λ κs a z y e d p q. p ∙ sym q;
+      first = λ κs a z y e d p q. p ∙ sym q;
+      crc-32 = λ κs a z y e d p q. p ∙ sym q;
+      section-length = λ κs a z y e d p q. p .is ∙ sym (q .is);
+      section-number = λ κs a z y e d p q. p ∙ sym q;
+      last-section-number = λ κs a z y e d p q. p ∙ sym q;
+      payload-scrambling-control = λ κs a z y e d p q. p ∙ sym q;
+      llc-snap-flag = λ κs a z y e d p q. p ∙ sym q;
+      address = λ κs a z y e d p q. p ∙ sym q;
+      same-address = λ κs a z y e d p q. p ∙ sym q;
+      header = λ κs a z y e d p q. p ∙ sym q;
+      fault = λ κs a z y e d p q. p ∙ sym q;
+      check = λ κs a z y e d p q. p ∙ sym q;
+      copy = λ κs a z y e d p q. p ∙ sym q;
+    }
