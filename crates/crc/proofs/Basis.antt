@@ -37,8 +37,8 @@ near-leaves = refl
 -- the quotient of v * x^32 by the polynomial is a sum of shifts down, its product with the polynomial one of shifts up
 abbrev pub barrett : List (List Shift)
 barrett =
-    (down 9 ∷ down 10 ∷ down 12 ∷ down 26 ∷ down 28 ∷ down 29 ∷ down 53 ∷ [])
-    ∷ (down 6 ∷ down 15 ∷ down 18 ∷ down 28 ∷ down 31 ∷ down 35 ∷ down 38 ∷ down 46 ∷ [])
+    (down 9 ∷ down 10 ∷ down 22 ∷ down 26 ∷ down 43 ∷ down 54 ∷ [])
+    ∷ (down 6 ∷ down 12 ∷ down 15 ∷ down 21 ∷ down 29 ∷ down 39 ∷ down 41 ∷ down 44 ∷ down 45 ∷ [])
     ∷ (up 1 ∷ up 2 ∷ up 16 ∷ []) ∷ (up 4 ∷ up 6 ∷ up 10 ∷ up 20 ∷ up 21 ∷ []) ∷ []
 
 unfoldable pub barrettError : ℕ → ℕ

@@ -45,6 +45,11 @@ leading j k x h =
     ∙ ap (λ c. crcBits k c x) (crcBits-add j 0 0 0 0 none none ∙ xor-self (crcBits j 0 0))
 
 -- ---- the first k bytes
+pub number-more : (k : ℕ) (s : List ℕ) {n : ℕ} → n ≡ number k s → getD s k 0 < 256 → n * 256 + getD s k 0 ≡ number (k + 1) s
+unfolding number
+number-more k s e h =
+    ap₂ (λ x y. x * 256 + y) e (sym (mod-eq-of-lt h)) ∙ ap (λ m. number m s) (sym (add-one k))
+
 pub number-lt : (k : ℕ) (s : List ℕ) → number k s < 2 ^ (k * 8)
 unfolding number
 number-lt zero s = pow-pos 0
@@ -55,11 +60,6 @@ number-lt (suc k) s =
 
 pub number-fits : (k : ℕ) (s : List ℕ) → k < 8 → number k s < 2 ^ 56
 number-fits k s h = let m : k * 8 ≤ 56 = omega (arith, h) in lt-of-lt-of-le (number-lt k s) (pow-mono m)
-
-pub number-more : (k : ℕ) (s : List ℕ) {n : ℕ} → n ≡ number k s → getD s k 0 < 256 → n * 256 + getD s k 0 ≡ number (k + 1) s
-unfolding number
-number-more k s e h =
-    ap₂ (λ x y. x * 256 + y) e (sym (mod-eq-of-lt h)) ∙ ap (λ m. number m s) (sym (add-one k))
 
 pub number-law : (k c : ℕ) (s : List ℕ) → k ≤ length s → crcBits (k * 8) c (number k s) ≡ crcFrom c (take k s)
 unfolding number crcBits crcFrom crcByte

@@ -99,21 +99,6 @@ module _ (v : ℕ) where
       ∙ ap (λ x. crcWords x (spread mss zs v) ws) (crcBits-add 64 c d (bitXor w z) (added 0 ms v) hc hd)
       ∙ cancel mss zs ws _ _ (crcBits-lt 64 c _ hc) (crcBits-lt 64 d _ hd) (le-of-suc-le-suc h) e
 
--- zero added to one word more
-zero-last : (zs ws : List ℕ) (c : ℕ) → crcWords c (zs ++ (0 ∷ [])) ws ≡ crcWords c zs ws
-unfolding crcWords
-zero-last [] [] c = refl
-zero-last [] (w ∷ ws) c = ap (λ x. crcWords (crcBits 64 c x) [] ws) (xor-zero-r w)
-zero-last (z ∷ zs) [] c = refl
-zero-last (z ∷ zs) (w ∷ ws) c = zero-last zs ws (crcBits 64 c (bitXor w z))
-
-pub zero-more : (zs : List ℕ) (v : ℕ) (s : List ℕ) → crcAfter v (zs ++ (0 ∷ [])) s ≡ crcAfter v zs s
-unfolding crcAfter
-zero-more zs v s = zero-last zs (words (length s / 8) s) (crcBits 64 0 v)
-
-pub tail : (k : ℕ) (s : List ℕ) → take (length s - k) (drop k s) ≡ drop k s
-tail k s = take-all (length s - k) (drop k s) (le-of-eq (length-drop k s))
-
 length-words : (n : ℕ) (s : List ℕ) → length (words n s) ≡ n
 unfolding words
 length-words zero s = refl
@@ -122,29 +107,50 @@ length-words (suc n) s = ap suc (length-words n (drop 8 s))
 pub first-word : (s : List ℕ) → 8 ≤ length s → words (length s / 8) s ≡ number 8 s ∷ words (length (drop 8 s) / 8) (drop 8 s)
 unfolding words
 first-word s h =
-    let l : length (drop 8 s) + 8 ≡ length s = omega (arith, length-drop 8 s, h) in
-    let e : length s / 8 ≡ suc (length (drop 8 s) / 8) = omega (arith, l) in
+    let e : length s / 8 ≡ suc (length (drop 8 s) / 8) = omega (arith, length-drop 8 s, h) in
     ap (λ n. words n s) e
 
-pub turn : (mss : List (List Shift)) → atBits (leaves mss) 64 ≡ 0 → (v : ℕ) (zs ys s t : List ℕ) {x y : ℕ}
-    → v < 2 ^ 64 → 8 ≤ length s → length mss * 8 ≤ length s → spread mss zs v ≡ y ∷ ys → x ≡ bitXor (number 8 s) y → t ≡ drop 8 s
-    → crcAfter x ys t ≡ crcAfter v zs s
+-- ---- what holds at each turn: a word v before the bytes s, with the zs still to be added, gives r
+abbrev pub Stands : ℕ → List ℕ → List ℕ → ℕ → Type 0
+Stands v zs s r = (8 ≤ length s) × (v < 2 ^ 64) × (crcAfter v zs s ≡ r)
+
+pub tail : (k : ℕ) (s : List ℕ) → take (length s - k) (drop k s) ≡ drop k s
+tail k s = take-all (length s - k) (drop k s) (le-of-eq (length-drop k s))
+
+pub turn : (mss : List (List Shift)) → atBits (leaves mss) 64 ≡ 0 → (v : ℕ) (zs ys s : List ℕ) {r x y : ℕ}
+    → Stands v zs s r → 16 ≤ length s → length mss * 8 ≤ length s → spread mss zs v ≡ y ∷ ys
+    → (x ≡ bitXor (number 8 s) y) × (x < 2 ^ 64) → Stands x ys (take (length s - 8) (drop 8 s)) r
 unfolding crcAfter leaves crcWords
-turn mss basis v zs ys s t {x} {y} hv h8 h e ex et =
+turn mss basis v zs ys s {r} {x} {y} (h8, hv, g) h16 h e (ex, hx) =
     let c : ℕ = crcBits 64 0 v in
     let small : c < 2 ^ 32 = crcBits-lt 64 0 v none in
     let ws : List ℕ = words (length s / 8) s in
-    let fits : length mss ≤ length ws = omega (arith, h, length-words (length s / 8) s) in
-    ap₂ (λ x t. crcAfter x ys t) ex et ∙ sym (ap (crcWords 0 (y ∷ ys)) (first-word s h8)) ∙ ap (λ l. crcWords 0 l ws) (sym e)
-    ∙ ap (λ x. crcWords x (spread mss zs v) ws) (sym (xor-self c))
-    ∙ cancel v mss zs ws c c small small fits (vanishes (leaves mss) (leaves-add mss) 64 basis v hv)
+    let fits : length mss ≤ length ws = omega (arith, h, length-words (length s / 8) s) in (
+      omega (arith, h16, ap length (tail 8 s), length-drop 8 s),
+      hx,
+      ap₂ (λ x t. crcAfter x ys t) ex (tail 8 s) ∙ sym (ap (crcWords 0 (y ∷ ys)) (first-word s h8)) ∙ ap (λ l. crcWords 0 l ws) (sym e)
+          ∙ ap (λ x. crcWords x (spread mss zs v) ws) (sym (xor-self c))
+          ∙ cancel v mss zs ws c c small small fits (vanishes (leaves mss) (leaves-add mss) 64 basis v hv) ∙ g,
+    )
+
+zero-last : (zs ws : List ℕ) (c : ℕ) → crcWords c (zs ++ (0 ∷ [])) ws ≡ crcWords c zs ws
+unfolding crcWords
+zero-last [] [] c = refl
+zero-last [] (w ∷ ws) c = ap (λ x. crcWords (crcBits 64 c x) [] ws) (xor-zero-r w)
+zero-last (z ∷ zs) [] c = refl
+zero-last (z ∷ zs) (w ∷ ws) c = zero-last zs ws (crcBits 64 c (bitXor w z))
+
+-- zero may be added to one word more
+pub one-more : (v : ℕ) (zs s : List ℕ) {r : ℕ} → Stands v zs s r → Stands v (zs ++ (0 ∷ [])) s r
+unfolding crcAfter
+one-more v zs s (h8, hv, g) = (h8, hv, zero-last zs (words (length s / 8) s) (crcBits 64 0 v) ∙ g)
 
 -- ---- one word is left
-pub last-word : (v z : ℕ) (zs s : List ℕ) {c x : ℕ} → 8 ≤ length s → length s < 16
-    → c ≡ crcBits 64 0 v → x ≡ bitXor (number 8 s) z → crcBits 64 0 (bitXor x (moved (up 32) c)) ≡ crcAfter v (z ∷ zs) s
+pub last-word : (v z : ℕ) (zs s : List ℕ) {r c x : ℕ} → Stands v (z ∷ zs) s r → length s < 16
+    → c ≡ crcBits 64 0 v → x ≡ bitXor (number 8 s) z → crcBits 64 0 (bitXor x (moved (up 32) c)) ≡ r
 unfolding crcAfter crcWords words
-last-word v z zs s {c} {x} h8 h16 ec ex =
+last-word v z zs s {r} {c} {x} (h8, hv, g) h16 ec ex =
     let one : length s / 8 ≡ 1 = omega (arith, h8, h16) in
     ap₂ (λ c x. crcBits 64 0 (bitXor x (moved (up 32) c))) ec ex
     ∙ sym (enter 0 (crcBits 64 0 v) (bitXor (number 8 s) z) none (crcBits-lt 64 0 v none))
-    ∙ ap (λ n. crcWords (crcBits 64 0 v) (z ∷ zs) (words n s)) (sym one)
+    ∙ ap (λ n. crcWords (crcBits 64 0 v) (z ∷ zs) (words n s)) (sym one) ∙ g

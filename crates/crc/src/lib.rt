@@ -35,9 +35,9 @@ fn next(s: &[u8], z: u64) -> u64
 fn reduce(v: u64) -> u32
     ensures { λ r. ⌜ r ≡ crcBits 64 0 v ⌝ }
 {
-    let half = v ^ (v >> 9) ^ (v >> 10) ^ (v >> 12) ^ (v >> 26) ^ (v >> 28) ^ (v >> 29) ^ (v >> 53);
-    let most = half ^ (half >> 6) ^ (half >> 15) ^ (half >> 18) ^ (half >> 28) ^ (half >> 31);
-    let quotient = most ^ (half >> 35) ^ (half >> 38) ^ (half >> 46);
+    let half = v ^ (v >> 9) ^ (v >> 10) ^ (v >> 22) ^ (v >> 26) ^ (v >> 43) ^ (v >> 54);
+    let most = half ^ (half >> 6) ^ (half >> 12) ^ (half >> 15) ^ (half >> 21) ^ (half >> 29);
+    let quotient = most ^ (half >> 39) ^ (half >> 41) ^ (half >> 44) ^ (half >> 45);
     let part = quotient ^ (quotient << 1) ^ (quotient << 2) ^ (quotient << 16);
     let product = part ^ (part << 4) ^ (part << 6) ^ (part << 10) ^ (part << 20) ^ (part << 21);
     (product % 4294967296) as u32

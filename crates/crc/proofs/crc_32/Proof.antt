@@ -10,68 +10,49 @@ use Rattle.crc.proofs.Bytes.{short-law, long-law}
 use borrow.Author.Needs.{needs}
 use Rattle.crc.proofs.crc_32.Statement.{statement}
 use Rattle.crc.proofs.crc_32.Tie as tie
-use Rattle.crc.proofs.crc_32.Reads as reads
-use Rattle.crc.proofs.crc_32.Lts as lts
-use Rattle.crc.proofs.by_far.Reads as by-far-reads
-use Rattle.crc.proofs.read.Reads as read-reads
-use Rattle.crc.proofs.reduce.Reads as reduce-reads
 
--- src/lib.rt:101:13
 read-requires : tie.Need-read-requires
 read-requires c κs = search needs
 
--- src/lib.rt:101:51
 mul-v : tie.Need-mul-v
 mul-v c = search needs
 
--- src/lib.rt:101:46
 sub-v : tie.Need-sub-v
 sub-v c = search needs
 
--- src/lib.rt:101:29
 shr-v : tie.Need-shr-v
 shr-v c = search needs
 
--- src/lib.rt:102:30
 mul-z : tie.Need-mul-z
 mul-z c = search needs
 
--- src/lib.rt:102:13
 shl-z : tie.Need-shl-z
 shl-z c = search needs
 
--- src/lib.rt:104:16
 reduce-requires : tie.Need-reduce-requires
 reduce-requires c κs = search needs
 
--- src/lib.rt:104:28
 cast-result : tie.Need-cast-result
 cast-result c = search needs
 
--- src/lib.rt:104:9
 returns : tie.Need-returns
 unfolding onesBefore onesAfter
 returns c =
     let s = c .before .before .before .before .args .s .now in
     short-law (length s % 8) (omega arith) s (omega (arith, c .before .if1 .taken)) (c .before .before .read .ensures) (c .reduce .ensures)
 
--- src/lib.rt:106:12
 sub-by-far : tie.Need-sub-by-far
 sub-by-far c = search needs
 
--- src/lib.rt:106:12
 part-by-far-start : tie.Need-part-by-far-start
 part-by-far-start c = search needs
 
--- src/lib.rt:106:12
 part-by-far-end : tie.Need-part-by-far-end
 part-by-far-end c = search needs
 
--- src/lib.rt:106:5
 by-far-requires : tie.Need-by-far-requires
 by-far-requires c κs = search needs
 
--- src/lib.rt:96:1
 returns-2 : tie.Need-returns-2
 unfolding onesBefore onesAfter
 returns-2 c =

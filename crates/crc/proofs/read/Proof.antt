@@ -7,8 +7,6 @@ use Rattle.crc.specs.Words.{number}
 use Rattle.crc.proofs.Bytes.{number-fits, number-more}
 use Rattle.crc.proofs.read.Statement.{statement}
 use Rattle.crc.proofs.read.Tie as tie
-use Rattle.crc.proofs.read.Reads as reads
-use Rattle.crc.proofs.read.Lts as lts
 
 abbrev Inv-loop : tie.InvT-loop
 Inv-loop s count joined₀ i₀ joined i = (i ≤ count) × (joined ≡ number i s)
