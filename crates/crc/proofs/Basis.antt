@@ -1,7 +1,7 @@
--- The multiples of the polynomial and the reduction are right because computing says so at each of the 64 bits of a word.
+-- The multiples of the polynomial and the reduction are right because computing says so at each single bit of a word.
 use mathlib.Core.Path.{_≡_, refl}
 use mathlib.Core.List.{List, [], _∷_}
-use Prim.Native.Nat.{ℕ, zero, suc, _+_, _*_, _/_, _%_, _^_, _-_}
+use Prim.Native.Nat.{ℕ, _+_, _*_, _/_, _%_, _^_, _-_}
 use lib.Bits.{bitXor}
 use Rattle.rules.specs.Crc.{start, crcBit, crcBits}
 use Rattle.crc.proofs.Shifts.{Shift, stay, up, down, moved, added, product, total, atBits}

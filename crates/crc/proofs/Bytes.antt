@@ -1,6 +1,6 @@
 -- Bytes may go in as numbers of many bits because the bits of a number are those of its bytes, the first byte's first.
 use mathlib.Core.Path.{_≡_, refl, sym, ap, ap₂, _∙_}
-use mathlib.Core.List.{List, [], _∷_, _++_}
+use mathlib.Core.List.{List, [], _∷_}
 use Prim.Native.Nat.{ℕ, zero, suc, _+_, _*_, _/_, _%_, _^_, _-_, _≤_, _<_}
 use native.Mathlib.Nat.{lt-of-lt-of-le, mod-lt, mod-eq-of-lt, zero-add, suc-add, add-comm}
 use native.Mathlib.Omega.{arith}
@@ -13,7 +13,7 @@ use lib.Pow as pow
 use Rattle.rules.specs.Crc.{start, crcBit, crcBits, crcByte, crcFrom, crc32}
 use Rattle.rules.proofs.Crc.{crcBits-lt, crcBits-add, crcFrom-append, xor-assoc}
 use Rattle.crc.specs.Words.{number, words, crcWords, crcAfter}
-use Rattle.crc.proofs.Shifts.{up, moved, total, total-at, xor-eq}
+use Rattle.crc.proofs.Shifts.{up, moved, total-at, xor-eq}
 use Rattle.crc.proofs.Basis.{onesBefore, onesAfter, startError, start-right}
 use Rattle.crc.proofs.Clear.{none, bits-add, enter, first-word}
 
@@ -31,11 +31,13 @@ low-bits (suc k) c x y e =
 parted : (j k c a b : ℕ) → b < 2 ^ k → crcBits (j + k) c (a * 2 ^ k + b) ≡ crcBits k (crcBits j c a) b
 unfolding crcBits
 parted zero k c a b h =
-    ap (λ n. crcBits n c (a * 2 ^ k + b)) (zero-add k) ∙ low-bits k c (a * 2 ^ k + b) b (pow.low a k h ∙ sym (mod-eq-of-lt h))
+    ap (λ n. crcBits n c (a * 2 ^ k + b)) (zero-add k)
+    ∙ low-bits k c (a * 2 ^ k + b) b (pow.low a k h ∙ sym (mod-eq-of-lt h))
 parted (suc j) k c a b h =
     ap (λ n. crcBits n c (a * 2 ^ k + b)) (suc-add j k)
     ∙ ap (λ d. crcBits (j + k) (crcBit c (d % 2)) (a * 2 ^ k + b))
-    (ap (λ n. (a * 2 ^ k + b) / 2 ^ n) (add-comm j k) ∙ sym (shr-shr (a * 2 ^ k + b) k j) ∙ ap (λ z. z / 2 ^ j) (high a k h))
+    (ap (λ n. (a * 2 ^ k + b) / 2 ^ n) (add-comm j k) ∙ sym (shr-shr (a * 2 ^ k + b) k j)
+    ∙ ap (λ z. z / 2 ^ j) (high a k h))
     ∙ parted j k (crcBit c (a / 2 ^ j % 2)) a b h
 
 -- zeros before a number change nothing in a register of zeros
@@ -45,7 +47,8 @@ leading j k x h =
     ∙ ap (λ c. crcBits k c x) (crcBits-add j 0 0 0 0 none none ∙ xor-self (crcBits j 0 0))
 
 -- ---- the first k bytes
-pub number-more : (k : ℕ) (s : List ℕ) {n : ℕ} → n ≡ number k s → getD s k 0 < 256 → n * 256 + getD s k 0 ≡ number (k + 1) s
+pub number-more : (k : ℕ) (s : List ℕ) {n : ℕ} → n ≡ number k s → getD s k 0 < 256
+    → n * 256 + getD s k 0 ≡ number (k + 1) s
 unfolding number
 number-more k s e h =
     ap₂ (λ x y. x * 256 + y) e (sym (mod-eq-of-lt h)) ∙ ap (λ m. number m s) (sym (add-one k))
@@ -61,7 +64,7 @@ number-lt (suc k) s =
 pub number-fits : (k : ℕ) (s : List ℕ) → k < 8 → number k s < 2 ^ 56
 number-fits k s h = let m : k * 8 ≤ 56 = omega (arith, h) in lt-of-lt-of-le (number-lt k s) (pow-mono m)
 
-pub number-law : (k c : ℕ) (s : List ℕ) → k ≤ length s → crcBits (k * 8) c (number k s) ≡ crcFrom c (take k s)
+number-law : (k c : ℕ) (s : List ℕ) → k ≤ length s → crcBits (k * 8) c (number k s) ≡ crcFrom c (take k s)
 unfolding number crcBits crcFrom crcByte
 number-law zero c s h = refl
 number-law (suc k) c s h =
@@ -74,7 +77,7 @@ number-law (suc k) c s h =
     ∙ sym (ap (crcFrom c) (take-suc s k 0 h) ∙ crcFrom-append (take k s) (b ∷ []) c)
 
 -- ---- whole words
-pub whole-words : (n c : ℕ) (s : List ℕ) → length s ≡ n * 8 → crcFrom c s ≡ crcWords c [] (words n s)
+whole-words : (n c : ℕ) (s : List ℕ) → length s ≡ n * 8 → crcFrom c s ≡ crcWords c [] (words n s)
 unfolding words crcWords crcFrom
 whole-words zero c [] h = refl
 whole-words zero c (b ∷ s) h = absurd (omega (arith, h))
@@ -104,7 +107,8 @@ module _ (k : ℕ) (h : k < 8) where
       let all : 64 ≡ (64 - k * 8) + k * 8 = omega (arith, h) in
       ap (λ x. bitXor x (onesAfter k / 2 ^ 32)) (bits-add 64 n (onesBefore k))
       ∙ xor-assoc (crcBits 64 0 n) (crcBits 64 0 (onesBefore k)) (onesAfter k / 2 ^ 32)
-      ∙ ap₂ bitXor (ap (λ m. crcBits m 0 n) all ∙ leading (64 - k * 8) (k * 8) n (omega (arith, e, number-lt k s))) (sym ones-before)
+      ∙ ap₂ bitXor (ap (λ m. crcBits m 0 n) all ∙ leading (64 - k * 8) (k * 8) n (omega (arith, e, number-lt k s)))
+      (sym ones-before)
       ∙ sym (crcBits-add (k * 8) 0 start n 0 none (omega arith))
       ∙ ap (crcBits (k * 8) start) (xor-zero-r n ∙ e) ∙ number-law k start s hs
 
@@ -112,7 +116,8 @@ module _ (k : ℕ) (h : k < 8) where
       → bitXor c (onesAfter k / 2 ^ 32) ≡ crc32 s
   unfolding crc32
   short-law s l e ec =
-      ap (λ x. bitXor x (onesAfter k / 2 ^ 32)) ec ∙ head-law s (omega (arith, l)) e ∙ ap (crcFrom start) (take-all k s (omega (arith, l)))
+      ap (λ x. bitXor x (onesAfter k / 2 ^ 32)) ec ∙ head-law s (omega (arith, l)) e
+      ∙ ap (crcFrom start) (take-all k s (omega (arith, l)))
 
   pub long-law : (s : List ℕ) {n r : ℕ} → 8 ≤ length s → length s % 8 ≡ k → n ≡ number k s
       → r ≡ crcAfter (bitXor n (onesBefore k)) (onesAfter k ∷ []) (drop k s) → r ≡ crc32 s
@@ -125,7 +130,8 @@ module _ (k : ℕ) (h : k < 8) where
       let some : 8 ≤ length t = omega (arith, length-drop k s, odd, h8) in
       er ∙ ap (crcWords c (onesAfter k ∷ [])) (first-word t some)
       ∙ ap (λ x. crcWords x [] (words (length (drop 8 t) / 8) (drop 8 t)))
-      (ap (λ z. crcBits 64 c (bitXor (number 8 t) z)) ones-after ∙ sym (enter c y (number 8 t) (crcBits-lt 64 0 _ none) ones-lt))
+      (ap (λ z. crcBits 64 c (bitXor (number 8 t) z)) ones-after
+      ∙ sym (enter c y (number 8 t) (crcBits-lt 64 0 _ none) ones-lt))
       ∙ sym (whole-words (length t / 8) (bitXor c y) t whole ∙ ap (crcWords (bitXor c y) []) (first-word t some))
       ∙ ap (λ x. crcFrom x t) (head-law s (omega (arith, odd, h8)) e)
       ∙ sym (crcFrom-append (take k s) t start) ∙ ap (crcFrom start) (take-append-drop k s)

@@ -1,4 +1,4 @@
--- A word may be taken away where it is added to the words after it as a multiple of the polynomial says: the two together leave zero.
+-- A word may be taken away if it is added to later words as a multiple of the polynomial says: all of it leaves zero.
 use mathlib.Core.Path.{_≡_, refl, sym, ap, ap₂, _∙_}
 use mathlib.Core.List.{List, [], _∷_, _++_}
 use Prim.Native.Nat.{ℕ, zero, suc, _+_, _*_, _/_, _%_, _^_, _-_, _≤_, _<_}
@@ -11,20 +11,9 @@ use lib.Pow.{pow-pos}
 use Rattle.rules.specs.Crc.{crcBits}
 use Rattle.rules.proofs.Crc.{xor-four, crcBits-lt, crcBits-add}
 use Rattle.crc.specs.Words.{number, words, crcWords, crcAfter}
-use Rattle.crc.proofs.Shifts.{Shift, up, moved, moved-add, added, added-add, added-apart, product, product-add, Adds, atBits, vanishes, xor-eq}
-use Rattle.crc.proofs.Basis.{
-  put,
-  leaves,
-  far,
-  far-leaves,
-  near,
-  near-leaves,
-  barrett,
-  barrettError,
-  barrett-right,
-  enterError,
-  enter-right,
-}
+use Rattle.crc.proofs.Shifts.{Shift, up, moved, moved-add, added, added-add, added-apart, product, product-add}
+use Rattle.crc.proofs.Shifts.{Adds, atBits, vanishes, xor-eq}
+use Rattle.crc.proofs.Basis.{put, leaves, barrett, barrettError, barrett-right, enterError, enter-right}
 
 pub none : 0 < 2 ^ 32
 none = pow-pos 32
@@ -42,16 +31,19 @@ reduces v h =
     xor-eq _ _
     (vanishes barrettError
     (xor-add (λ v. product barrett v % 2 ^ 32) (crcBits 64 0)
-    (λ a b. ap (λ x. x % 2 ^ 32) (product-add barrett a b) ∙ xor-mod (product barrett a) (product barrett b) 32) (bits-add 64))
+    (λ a b. ap (λ x. x % 2 ^ 32) (product-add barrett a b) ∙ xor-mod (product barrett a) (product barrett b) 32)
+    (bits-add 64))
     64 barrett-right v h)
 
-put-add : (mss : List (List Shift)) (a b u v : ℕ) → a < 2 ^ 32 → b < 2 ^ 32 → put mss (bitXor a b) (bitXor u v) ≡ bitXor (put mss a u) (put mss b v)
+put-add : (mss : List (List Shift)) (a b u v : ℕ) → a < 2 ^ 32 → b < 2 ^ 32
+    → put mss (bitXor a b) (bitXor u v) ≡ bitXor (put mss a u) (put mss b v)
 unfolding put
 put-add [] a b u v ha hb = refl
 put-add (ms ∷ mss) a b u v ha hb =
     ap (λ x. put mss (crcBits 64 (bitXor a b) x) (bitXor u v)) (added-add ms 0 0 u v)
     ∙ ap (λ c. put mss c (bitXor u v)) (crcBits-add 64 a b (added 0 ms u) (added 0 ms v) ha hb)
-    ∙ put-add mss (crcBits 64 a (added 0 ms u)) (crcBits 64 b (added 0 ms v)) u v (crcBits-lt 64 a _ ha) (crcBits-lt 64 b _ hb)
+    ∙ put-add mss (crcBits 64 a (added 0 ms u)) (crcBits 64 b (added 0 ms v)) u v
+    (crcBits-lt 64 a _ ha) (crcBits-lt 64 b _ hb)
 
 leaves-add : (mss : List (List Shift)) → Adds (leaves mss)
 unfolding leaves
@@ -72,10 +64,12 @@ alone y h =
     32 enter-right y h)
 
 -- a register goes in as the 32 high bits of the next word
-pub enter : (c y w : ℕ) → c < 2 ^ 32 → y < 2 ^ 32 → crcBits 64 (bitXor c y) w ≡ crcBits 64 c (bitXor w (moved (up 32) y))
+pub enter : (c y w : ℕ) → c < 2 ^ 32 → y < 2 ^ 32
+    → crcBits 64 (bitXor c y) w ≡ crcBits 64 c (bitXor w (moved (up 32) y))
 enter c y w hc hy =
-    ap (crcBits 64 (bitXor c y)) (sym (xor-zero-r w)) ∙ crcBits-add 64 c y w 0 hc hy ∙ ap (bitXor (crcBits 64 c w)) (alone y hy)
-    ∙ sym (crcBits-add 64 c 0 w (moved (up 32) y) hc none) ∙ ap (λ x. crcBits 64 x (bitXor w (moved (up 32) y))) (xor-zero-r c)
+    ap (crcBits 64 (bitXor c y)) (sym (xor-zero-r w)) ∙ crcBits-add 64 c y w 0 hc hy
+    ∙ ap (bitXor (crcBits 64 c w)) (alone y hy) ∙ sym (crcBits-add 64 c 0 w (moved (up 32) y) hc none)
+    ∙ ap (λ x. crcBits 64 x (bitXor w (moved (up 32) y))) (xor-zero-r c)
 
 -- ---- a word is taken away
 -- the zs with what v adds to each
@@ -85,8 +79,8 @@ spread (ms ∷ mss) [] v = added 0 ms v ∷ spread mss [] v
 spread (ms ∷ mss) (z ∷ zs) v = added z ms v ∷ spread mss zs v
 
 module _ (v : ℕ) where
-  cancel : (mss : List (List Shift)) (zs ws : List ℕ) (c d : ℕ) → c < 2 ^ 32 → d < 2 ^ 32 → length mss ≤ length ws → put mss d v ≡ 0
-      → crcWords (bitXor c d) (spread mss zs v) ws ≡ crcWords c zs ws
+  cancel : (mss : List (List Shift)) (zs ws : List ℕ) (c d : ℕ) → c < 2 ^ 32 → d < 2 ^ 32 → length mss ≤ length ws
+      → put mss d v ≡ 0 → crcWords (bitXor c d) (spread mss zs v) ws ≡ crcWords c zs ws
   unfolding put spread crcWords
   cancel [] zs ws c d hc hd h e = ap (λ x. crcWords (bitXor c x) zs ws) e ∙ ap (λ x. crcWords x zs ws) (xor-zero-r c)
   cancel (ms ∷ mss) zs [] c d hc hd h e = absurd (not-suc-le-zero h)
@@ -95,7 +89,8 @@ module _ (v : ℕ) where
       ∙ cancel mss [] ws _ _ (crcBits-lt 64 c w hc) (crcBits-lt 64 d _ hd) (le-of-suc-le-suc h) e
   cancel (ms ∷ mss) (z ∷ zs) (w ∷ ws) c d hc hd h e =
       ap (λ x. crcWords (crcBits 64 (bitXor c d) x) (spread mss zs v) ws)
-      (sym (added-apart ms w z v) ∙ ap (λ x. added x ms v) (sym (xor-zero-r (bitXor w z))) ∙ added-apart ms (bitXor w z) 0 v)
+      (sym (added-apart ms w z v) ∙ ap (λ x. added x ms v) (sym (xor-zero-r (bitXor w z)))
+      ∙ added-apart ms (bitXor w z) 0 v)
       ∙ ap (λ x. crcWords x (spread mss zs v) ws) (crcBits-add 64 c d (bitXor w z) (added 0 ms v) hc hd)
       ∙ cancel mss zs ws _ _ (crcBits-lt 64 c _ hc) (crcBits-lt 64 d _ hd) (le-of-suc-le-suc h) e
 
@@ -104,7 +99,8 @@ unfolding words
 length-words zero s = refl
 length-words (suc n) s = ap suc (length-words n (drop 8 s))
 
-pub first-word : (s : List ℕ) → 8 ≤ length s → words (length s / 8) s ≡ number 8 s ∷ words (length (drop 8 s) / 8) (drop 8 s)
+pub first-word : (s : List ℕ) → 8 ≤ length s
+    → words (length s / 8) s ≡ number 8 s ∷ words (length (drop 8 s) / 8) (drop 8 s)
 unfolding words
 first-word s h =
     let e : length s / 8 ≡ suc (length (drop 8 s) / 8) = omega (arith, length-drop 8 s, h) in
@@ -128,8 +124,8 @@ turn mss basis v zs ys s {r} {x} {y} (h8, hv, g) h16 h e (ex, hx) =
     let fits : length mss ≤ length ws = omega (arith, h, length-words (length s / 8) s) in (
       omega (arith, h16, ap length (tail 8 s), length-drop 8 s),
       hx,
-      ap₂ (λ x t. crcAfter x ys t) ex (tail 8 s) ∙ sym (ap (crcWords 0 (y ∷ ys)) (first-word s h8)) ∙ ap (λ l. crcWords 0 l ws) (sym e)
-          ∙ ap (λ x. crcWords x (spread mss zs v) ws) (sym (xor-self c))
+      ap₂ (λ x t. crcAfter x ys t) ex (tail 8 s) ∙ sym (ap (crcWords 0 (y ∷ ys)) (first-word s h8))
+          ∙ ap (λ l. crcWords 0 l ws) (sym e) ∙ ap (λ x. crcWords x (spread mss zs v) ws) (sym (xor-self c))
           ∙ cancel v mss zs ws c c small small fits (vanishes (leaves mss) (leaves-add mss) 64 basis v hv) ∙ g,
     )
 

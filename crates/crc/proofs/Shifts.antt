@@ -2,7 +2,8 @@
 use mathlib.Core.Path.{_≡_, refl, sym, ap, ap₂, _∙_}
 use mathlib.Core.List.{List, [], _∷_}
 use Prim.Native.Nat.{ℕ, zero, suc, _+_, _*_, _/_, _%_, _^_, _<_}
-use native.Mathlib.Nat.{mod-lt, one-mul, zero-mul, div-lt-iff-lt-mul, eq-or-lt-of-le, le-of-suc-le-suc, not-suc-le-zero}
+use native.Mathlib.Nat.{mod-lt, one-mul, zero-mul, div-lt-iff-lt-mul}
+use native.Mathlib.Nat.{eq-or-lt-of-le, le-of-suc-le-suc, not-suc-le-zero}
 use mathlib.Core.Logic.{⊎-elim}
 use native.Mathlib.Omega.{arith}
 use lib.Bits.{bitXor, xor-zero-r, xor-self, xor-shr, xor-mod, xor-shifted}
@@ -40,7 +41,8 @@ moved-add stay a b = refl
 moved-add (up k) a b = ap (λ x. x % 2 ^ 64) (xor-shl k a b) ∙ xor-mod (a * 2 ^ k) (b * 2 ^ k) 64
 moved-add (down k) a b = xor-shr a b k
 
-pub added-add : (ms : List Shift) (a b u v : ℕ) → added (bitXor a b) ms (bitXor u v) ≡ bitXor (added a ms u) (added b ms v)
+pub added-add : (ms : List Shift) (a b u v : ℕ)
+    → added (bitXor a b) ms (bitXor u v) ≡ bitXor (added a ms u) (added b ms v)
 unfolding added
 added-add [] a b u v = refl
 added-add (m ∷ ms) a b u v =
@@ -51,7 +53,8 @@ added-add (m ∷ ms) a b u v =
 pub added-apart : (ms : List Shift) (a b v : ℕ) → added (bitXor a b) ms v ≡ bitXor a (added b ms v)
 unfolding added
 added-apart [] a b v = refl
-added-apart (m ∷ ms) a b v = ap (λ x. added x ms v) (xor-assoc a b (moved m v)) ∙ added-apart ms a (bitXor b (moved m v)) v
+added-apart (m ∷ ms) a b v =
+    ap (λ x. added x ms v) (xor-assoc a b (moved m v)) ∙ added-apart ms a (bitXor b (moved m v)) v
 
 pub product-add : (mss : List (List Shift)) → Adds (product mss)
 unfolding product
@@ -83,8 +86,8 @@ vanishes f add (suc k) e v h =
     let here : f (2 ^ k) ≡ 0 = omega (arith, e) in
     let below : atBits f k ≡ 0 = omega (arith, e) in
     let high : f (q * 2 ^ k) ≡ 0 =
-    bit-cases (λ x. f (x * 2 ^ k) ≡ 0) (ap f (zero-mul (2 ^ k)) ∙ add 0 0 ∙ xor-self (f 0)) (ap f (one-mul (2 ^ k)) ∙ here) q
-    (div-lt-iff-lt-mul (pow-pos k) .1 (omega (arith, h))) in
+    bit-cases (λ x. f (x * 2 ^ k) ≡ 0) (ap f (zero-mul (2 ^ k)) ∙ add 0 0 ∙ xor-self (f 0))
+    (ap f (one-mul (2 ^ k)) ∙ here) q (div-lt-iff-lt-mul (pow-pos k) .1 (omega (arith, h))) in
     ap f (sym (xor-shifted q k r (mod-lt v (pow-pos k)) ∙ split v k)) ∙ add (q * 2 ^ k) r
     ∙ ap₂ bitXor high (vanishes f add k below r (mod-lt v (pow-pos k)))
 

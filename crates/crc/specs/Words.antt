@@ -1,4 +1,4 @@
--- The bytes of a slice as words of 64 bits, and the register after words to some of which something is still to be added.
+-- The bytes of a slice as words of 64 bits, and the register after words to which something is still to be added.
 use mathlib.Core.List.{List, [], _∷_}
 use Prim.Native.Nat.{ℕ, zero, suc, _+_, _*_, _/_, _%_}
 use lib.ListN.{length, getD, drop}

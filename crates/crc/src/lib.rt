@@ -1,5 +1,5 @@
-// CRC_32 of ISO/IEC 13818-1 with no table. A word of 64 bits may be taken away if it is added to later words as a multiple of the polynomial
-// says, and multiples with few terms make that a few shifts.
+// CRC_32 of ISO/IEC 13818-1 with no table. A word of 64 bits may be taken away if it is added to later words as a
+// multiple of the polynomial says, and multiples with few terms make that a few shifts.
 ghost use mathlib.Core.Path.{_≡_};
 ghost use mathlib.Core.List.{_∷_, []};
 ghost use Prim.Native.Nat.{_≤_, _<_, _^_};
@@ -30,8 +30,8 @@ fn next(s: &[u8], z: u64) -> u64
     read(s, 8) ^ z
 }
 
-// Barrett's reduction. The reciprocal of the polynomial and the polynomial itself are each, in the bits that count, a product of two
-// polynomials with fewer terms.
+// Barrett's reduction. The reciprocal of the polynomial and the polynomial itself are each, in the bits that count, a
+// product of two polynomials with fewer terms.
 fn reduce(v: u64) -> u32
     ensures { λ r. ⌜ r ≡ crcBits 64 0 v ⌝ }
 {
@@ -40,10 +40,10 @@ fn reduce(v: u64) -> u32
     let quotient = most ^ (half >> 39) ^ (half >> 41) ^ (half >> 44) ^ (half >> 45);
     let part = quotient ^ (quotient << 1) ^ (quotient << 2) ^ (quotient << 16);
     let product = part ^ (part << 4) ^ (part << 6) ^ (part << 10) ^ (part << 20) ^ (part << 21);
-    (product % 4294967296) as u32
+    (product % 0x1_0000_0000) as u32
 }
 
-// Down to the last word by x^120 + x^56 + x^40 + x^33 + x^15 + x^9 + x^8 + x + 1, which reaches no more than two words on.
+// Down to the last word by x^120 + x^56 + x^40 + x^33 + x^15 + x^9 + x^8 + x + 1, which reaches only two words on.
 fn by_near(s: &[u8], first: u64, a1: u64, a2: u64, a3: u64, a4: u64) -> u32
     requires { ⌜ 8 ≤ length (now s) ⌝ }
     ensures { λ r. ⌜ r ≡ crcAfter first (a1 ∷ a2 ∷ a3 ∷ a4 ∷ []) (now (s .entry)) ⌝ }
@@ -91,13 +91,13 @@ fn by_far(s: &[u8], first: u64, a1: u64) -> u32
     by_near(rest, v, z1, z2, z3, z4)
 }
 
-// The odd bytes come first, at the low end of a word, since zeros before them change nothing in a register of zeros. The 32 ones that the
-// register starts with are added to the first 32 bits instead.
+// The odd bytes come first, at the low end of a word, since zeros before them change nothing in a register of zeros.
+// The 32 ones that the register starts with are added to the first 32 bits instead.
 pub fn crc_32(s: &[u8]) -> u32
     ensures { λ r. ⌜ r ≡ crc32 (now (s .entry)) ⌝ }
 {
     let odd = s.len() % 8;
-    let ones: u64 = 4294967295;
+    let ones: u64 = 0xFFFF_FFFF;
     let v = read(s, odd) ^ ((ones << 24) >> (56 - odd * 8));
     let z = (ones << 32) << (odd * 8);
     if s.len() < 8 {

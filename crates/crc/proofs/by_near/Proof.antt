@@ -63,7 +63,8 @@ unfolding moved
 returns c =
     let l = c .before .before .before .before .loop in
     c .reduce2 .ensures
-    ∙ last-word (l .v) (l .z1) _ (l .rest .now) (l .inv) (omega arith) (c .before .before .reduce .ensures) (c .before .next2 .ensures .0)
+    ∙ last-word (l .v) (l .z1) _ (l .rest .now) (l .inv) (omega arith) (c .before .before .reduce .ensures)
+    (c .before .next2 .ensures .0)
 
 pub by-near-spec : {M : Type 1} → statement M
 by-near-spec =

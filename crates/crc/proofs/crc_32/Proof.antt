@@ -1,5 +1,5 @@
--- `crc::crc_32` meets its contract: the odd bytes with their share of the ones stand for the start value, and the words follow.
-use mathlib.Core.Path.{_≡_, refl, ap, _∙_}
+-- `crc::crc_32` meets its contract: the odd bytes, with the ones added, stand for the register before the words.
+use mathlib.Core.Path.{refl, ap, _∙_}
 use Prim.Native.Nat.{_%_}
 use native.Mathlib.Omega.{arith}
 use lib.ListN.{length}
@@ -39,7 +39,8 @@ returns : tie.Need-returns
 unfolding onesBefore onesAfter
 returns c =
     let s = c .before .before .before .before .args .s .now in
-    short-law (length s % 8) (omega arith) s (omega (arith, c .before .if1 .taken)) (c .before .before .read .ensures) (c .reduce .ensures)
+    short-law (length s % 8) (omega arith) s (omega (arith, c .before .if1 .taken))
+    (c .before .before .read .ensures) (c .reduce .ensures)
 
 sub-by-far : tie.Need-sub-by-far
 sub-by-far c = search needs
@@ -57,8 +58,8 @@ returns-2 : tie.Need-returns-2
 unfolding onesBefore onesAfter
 returns-2 c =
     let s = c .before .before .before .before .before .args .s .now in
-    long-law (length s % 8) (omega arith) s (omega (arith, c .before .before .if1 .left)) refl (c .before .before .before .read .ensures)
-    (c .by-far .ensures ∙ ap (crcAfter _ _) (tail (length s % 8) s))
+    long-law (length s % 8) (omega arith) s (omega (arith, c .before .before .if1 .left)) refl
+    (c .before .before .before .read .ensures) (c .by-far .ensures ∙ ap (crcAfter _ _) (tail (length s % 8) s))
 
 pub crc-32-spec : {M : Type 1} → statement M
 crc-32-spec =

@@ -14,7 +14,8 @@ returns : tie.Need-returns
 returns c =
     let a = c .before .before .args in
     let e = c .read .ensures in
-    (ap (λ w. bitXor w (a .z)) e, xor-lt 64 (c .read .result) (a .z) (omega (arith, e, number-lt 8 (a .s .now))) (search needs))
+    let small = number-lt 8 (a .s .now) in
+    (ap (λ w. bitXor w (a .z)) e, xor-lt 64 (c .read .result) (a .z) (omega (arith, e, small)) (search needs))
 
 pub next-spec : {M : Type 1} → statement M
 next-spec = tie.close (tie.spec read-requires returns)

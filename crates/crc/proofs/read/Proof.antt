@@ -20,7 +20,8 @@ loop-holds c = (search needs, refl)
 
 mul-joined : tie.Need-mul-joined Inv-loop μ-loop
 mul-joined c =
-    omega (arith, c .before .loop .inv .1, number-fits (c .before .loop .i) (c .before .before .args .s .now) (omega arith))
+    let l = c .before .loop in
+    omega (arith, l .inv .1, number-fits (l .i) (c .before .before .args .s .now) (omega arith))
 
 shared-slice-read-joined : tie.Need-shared-slice-read-joined Inv-loop μ-loop
 shared-slice-read-joined c = search needs
@@ -31,7 +32,8 @@ cast-joined c = omega (arith, c .shared-slice-known .given (c .before .before .l
 add-joined : tie.Need-add-joined Inv-loop μ-loop
 add-joined c =
     let l = c .before .before .loop in
-    omega (arith, l .inv .1, number-fits (l .i) (c .before .before .before .args .s .now) (omega arith), c .shared-slice-known .given (l .i))
+    let s = c .before .before .before .args .s .now in
+    omega (arith, l .inv .1, number-fits (l .i) s (omega arith), c .shared-slice-known .given (l .i))
 
 add-i : tie.Need-add-i Inv-loop μ-loop
 add-i c = search needs
@@ -42,7 +44,8 @@ loop-less c = search needs
 loop-again : tie.Need-loop-again Inv-loop μ-loop
 loop-again c =
     let l = c .before .before .loop in
-    (search needs, number-more (l .i) (c .before .before .before .args .s .now) (l .inv .1) (omega (arith, c .shared-slice-known .given (l .i))))
+    let byte = c .shared-slice-known .given (l .i) in
+    (search needs, number-more (l .i) (c .before .before .before .args .s .now) (l .inv .1) (omega (arith, byte)))
 
 returns : tie.Need-returns Inv-loop μ-loop
 returns c =
