@@ -68,7 +68,7 @@ fn by_near(s: &[u8], first: u64, a1: u64, a2: u64, a3: u64, a4: u64) -> u32
     reduce(next(rest, z1) ^ ((register as u64) << 32))
 }
 
-// As long as five words are left, by x^300 + x^155 + x^117 + x^89 + 1, which has fewer terms.
+// As long as six words are left, by x^300 + x^155 + x^117 + x^89 + 1, which has fewer terms but reaches five words on.
 fn by_far(s: &[u8], first: u64, a1: u64) -> u32
     requires { ⌜ 8 ≤ length (now s) ⌝ }
     ensures { λ r. ⌜ r ≡ crcAfter first (a1 ∷ []) (now (s .entry)) ⌝ }
@@ -79,14 +79,16 @@ fn by_far(s: &[u8], first: u64, a1: u64) -> u32
     let mut z2: u64 = 0;
     let mut z3: u64 = 0;
     let mut z4: u64 = 0;
-    while 40 <= rest.len() {
-        let w = next(rest, z1);
-        z1 = z2 ^ (v >> 17) ^ (v >> 55);
-        z2 = z3 ^ (v << 47) ^ (v << 9) ^ (v >> 19);
-        z3 = z4 ^ (v << 45) ^ (v >> 44);
-        z4 = v << 20;
-        v = w;
-        rest = &rest[8..];
+    while 48 <= rest.len() {
+        let w1 = next(rest, z1);
+        let second = &rest[8..];
+        let w2 = next(second, z2 ^ (v >> 17) ^ (v >> 55));
+        z1 = z3 ^ (v << 47) ^ (v << 9) ^ (v >> 19) ^ (w1 >> 17) ^ (w1 >> 55);
+        z2 = z4 ^ (v << 45) ^ (v >> 44) ^ (w1 << 47) ^ (w1 << 9) ^ (w1 >> 19);
+        z3 = (v << 20) ^ (w1 << 45) ^ (w1 >> 44);
+        z4 = w1 << 20;
+        v = w2;
+        rest = &second[8..];
     }
     by_near(rest, v, z1, z2, z3, z4)
 }
