@@ -50,7 +50,8 @@ xor-assoc =
     ∙ ap₂ (λ x y. bitXor x (c / 2) * 2 + differ y (c % 2)) (xor-shr n b 1) (xor-odd n b)
     ∙ ap₂ (λ x y. x * 2 + y) (ih (b / 2) (c / 2))
     (differ-assoc (n % 2) (b % 2) (c % 2) (mod-lt n two-pos) (mod-lt b two-pos) (mod-lt c two-pos))
-    ∙ sym (xor-step n (bitXor b c) ∙ ap₂ (λ x y. bitXor (n / 2) x * 2 + differ (n % 2) y) (xor-shr b c 1) (xor-odd b c)))
+    ∙ sym (xor-step n (bitXor b c)
+    ∙ ap₂ (λ x y. bitXor (n / 2) x * 2 + differ (n % 2) y) (xor-shr b c 1) (xor-odd b c)))
 
 pub xor-four : (a b c d : ℕ) → bitXor (bitXor a b) (bitXor c d) ≡ bitXor (bitXor a c) (bitXor b d)
 xor-four a b c d =
@@ -87,7 +88,8 @@ crcBit-add a b d e ha hb hd he =
     ∙ ap₂ (λ x y. bitXor (x * polynomial) y) (xor-four (a / 2 ^ 31) (b / 2 ^ 31) d e) (xor-mod (a * 2) (b * 2) 32)
     ∙ ap (λ x. bitXor x (bitXor (a * 2 % 2 ^ 32) (b * 2 % 2 ^ 32)))
     (scaled (bitXor (a / 2 ^ 31) d) (bitXor (b / 2 ^ 31) e) (xor-lt 1 _ _ (top a ha) hd) (xor-lt 1 _ _ (top b hb) he))
-    ∙ xor-four (bitXor (a / 2 ^ 31) d * polynomial) (bitXor (b / 2 ^ 31) e * polynomial) (a * 2 % 2 ^ 32) (b * 2 % 2 ^ 32)
+    ∙ xor-four (bitXor (a / 2 ^ 31) d * polynomial) (bitXor (b / 2 ^ 31) e * polynomial)
+    (a * 2 % 2 ^ 32) (b * 2 % 2 ^ 32)
 
 -- ---- any number of bits
 bit-lt : (k x : ℕ) → x / 2 ^ k % 2 < 2

@@ -1,0 +1,4 @@
+pub mod Shifts
+pub mod Basis
+pub mod Clear
+pub mod Bytes
