@@ -1,0 +1,70 @@
+-- What the code does is an outcome: each choice of the outcome is decided by the test that the code made.
+use Prim.Native.Nat.{ℕ, _+_, _-_, _≤_}
+use native.Mathlib.Decide.{decLe}
+use native.Mathlib.Omega.{arith}
+use mathlib.Core.Path.{_≡_, refl, sym, _∙_}
+use mathlib.Core.List.{List, _++_, append-assoc, append-nil}
+use mathlib.Core.Bool.{Bool, true, false}
+use lib.Dec.{leb}
+use lib.ListN.{length, take, drop, length-drop, drop-of-length-le}
+use lib.Seq.{paste, drop-drop, take-all, take-length}
+use borrow.Author.Tests.{eq-eqb, ne-eqb, le-leb, lt-leb, leb-true}
+use Rattle.wire.specs.Bytes.{over}
+use Rattle.wire.specs.Choice.{pick, both, Line, firstOf}
+use Rattle.wire.proofs.Choice.{never}
+use Rattle.rules.specs.declared.Step.{Step}
+use Rattle.rules.specs.Step.{Outcome, Does, Place, lay, refuse, refuseFirst}
+
+pub does-yes : {t : Bool} {r : Step} {b : List ℕ} (a o : Outcome) → t ≡ true → Does a r b → Does (pick t a o) r b
+unfolding pick
+does-yes a o e h = rw e h
+
+pub does-not : {t : Bool} {r : Step} {b : List ℕ} (a o : Outcome) → t ≡ false → Does o r b → Does (pick t a o) r b
+unfolding pick
+does-not a o e h = rw e h
+
+-- a line applies
+pub does-refuse : {n : ℕ} {r : Step} {b : List ℕ} (lines : List Line) (o : Outcome)
+    → n ≡ firstOf lines → (n ≡ 0 → ⊥) → Does (refuse n b) r b → Does (refuseFirst lines b o) r b
+unfolding refuseFirst
+does-refuse lines o e ne h = does-not _ _ (ne-eqb _ _ (λ z. ne (e ∙ z))) (rw e at h)
+
+-- none does
+pub does-past : {n : ℕ} {r : Step} {d : List ℕ} (lines : List Line) (b : List ℕ) (o : Outcome)
+    → n ≡ firstOf lines → n ≡ 0 → Does o r d → Does (refuseFirst lines b o) r d
+unfolding refuseFirst
+does-past lines b o e z h = does-yes _ _ (eq-eqb _ _ (sym e ∙ z)) h
+
+-- the part of b from f on, with all of p laid over its start, put back
+pub store-is : (f : ℕ) (p b d : List ℕ) → f + length p ≤ length b → d ≡ over p (take (length b - f) (drop f b))
+    → take f b ++ (d ++ drop (length b - f) (drop f b)) ≡ paste b f p (length p)
+store-is f p b d h e =
+    let l : length (drop f b) ≡ length b - f = length-drop f b in
+    let m : length (drop f b) ≤ length b - f = omega arith in
+    let k : length p ≤ length (drop f b) = omega arith in
+    rw (e, take-all (length b - f) (drop f b) m, drop-of-length-le (drop f b) m, take-all (length (drop f b)) p k, append-nil, drop-drop, take-length, append-assoc)
+
+-- a sum is within a bound that its first part is within
+pub leb-shift : (f n m : ℕ) → f ≤ m → leb n (m - f) ≡ leb (f + n) m
+leb-shift f n m h = go (decLe (f + n) m)
+  where
+    go : Dec (f + n ≤ m) → leb n (m - f) ≡ leb (f + n) m
+    go (yes k) = le-leb n (m - f) (omega arith) ∙ sym (le-leb (f + n) m k)
+    go (no k) = lt-leb n (m - f) (omega arith) ∙ sym (lt-leb (f + n) m (omega arith))
+
+pub both-true : (t u : Bool) → both t u ≡ true → (t ≡ true) × (u ≡ true)
+unfolding both
+both-true true u e = (refl, e)
+both-true false u e = absurd (never e)
+
+-- the next number of a run whose numbers are good is small
+pub next-small : (e l : ℕ) → both (leb 1 e) (both (leb e l) (leb l 254)) ≡ true → e ≤ 254
+next-small e l h =
+    let t = both-true _ _ (both-true _ _ h .1) in
+    let p : e ≤ l = leb-true _ _ (t .0) in
+    let q : l ≤ 254 = leb-true _ _ (t .1) in
+    omega arith
+
+-- what is laid where a section's payload goes
+pub does-lay : {p q : Place} {r : Step} (s b d : List ℕ) → p ≡ q → Does (lay q s b) r d → Does (lay p s b) r d
+does-lay s b d e h = rw e h

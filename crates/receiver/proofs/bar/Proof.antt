@@ -1,0 +1,33 @@
+-- The code computes the definition.
+use Rattle.rules.specs.Step.{bar}
+use Rattle.rules.specs.Step.{barLines}
+use Rattle.wire.specs.Choice.{firstOf}
+use borrow.Author.Needs.{needs}
+use Rattle.receiver.proofs.bar.Statement.{statement}
+use Rattle.receiver.proofs.bar.Tie as tie
+
+payload-scrambled-requires : tie.Need-payload-scrambled-requires
+payload-scrambled-requires c κs = search needs
+
+over-limit-requires : tie.Need-over-limit-requires
+over-limit-requires c κs = search needs
+
+first-requires : tie.Need-first-requires
+first-requires c κs = search needs
+
+first-requires-2 : tie.Need-first-requires-2
+first-requires-2 c κs = search needs
+
+returns : tie.Need-returns
+unfolding bar barLines firstOf
+returns c = cc
+
+pub bar-spec : {M : Type 1} → statement M
+bar-spec =
+    tie.close
+    (tie.spec
+    payload-scrambled-requires
+    over-limit-requires
+    first-requires
+    first-requires-2
+    returns)

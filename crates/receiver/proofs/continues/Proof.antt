@@ -1,0 +1,35 @@
+-- The code computes the definition.
+use Rattle.rules.specs.Step.{continues}
+use borrow.Author.Needs.{needs}
+use Rattle.receiver.proofs.continues.Statement.{statement}
+use Rattle.receiver.proofs.continues.Tie as tie
+
+section-number-requires : tie.Need-section-number-requires
+section-number-requires c κs = search needs
+
+cast-both : tie.Need-cast-both
+cast-both c = search needs
+
+key-of-requires : tie.Need-key-of-requires
+key-of-requires c κs = search needs
+
+same-key-requires : tie.Need-same-key-requires
+same-key-requires c κs = search needs
+
+both-requires : tie.Need-both-requires
+both-requires c κs = search needs
+
+returns : tie.Need-returns
+unfolding continues
+returns c = cc
+
+pub continues-spec : {M : Type 1} → statement M
+continues-spec =
+    tie.close
+    (tie.spec
+    section-number-requires
+    cast-both
+    key-of-requires
+    same-key-requires
+    both-requires
+    returns)

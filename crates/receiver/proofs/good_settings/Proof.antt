@@ -1,0 +1,21 @@
+-- The code computes the definition.
+use Rattle.rules.specs.Step.{goodSettings}
+use borrow.Author.Needs.{needs}
+use Rattle.receiver.proofs.good_settings.Statement.{statement}
+use Rattle.receiver.proofs.good_settings.Tie as tie
+
+both-requires : tie.Need-both-requires
+both-requires c κs = search needs
+
+both-requires-2 : tie.Need-both-requires-2
+both-requires-2 c κs = search needs
+
+both-requires-3 : tie.Need-both-requires-3
+both-requires-3 c κs = search needs
+
+returns : tie.Need-returns
+unfolding goodSettings
+returns c = cc
+
+pub good-settings-spec : {M : Type 1} → statement M
+good-settings-spec = tie.close (tie.spec both-requires both-requires-2 both-requires-3 returns)

@@ -1,0 +1,27 @@
+-- An open state is good as its run is.
+use mathlib.Core.Path.{sym, ap, _∙_}
+use Rattle.rules.specs.Step.{goodState}
+use borrow.Author.Needs.{needs}
+use Rattle.receiver.proofs.good_state.Statement.{statement}
+use Rattle.receiver.proofs.good_state.Tie as tie
+
+enum-known-state : tie.Need-enum-known-state
+enum-known-state c = search needs
+
+enum-told : tie.Need-enum-told
+enum-told c = search needs
+
+returns : tie.Need-returns
+unfolding goodState
+returns c = sym (ap goodState (c .enum-told .given .1))
+
+good-run-requires : tie.Need-good-run-requires
+good-run-requires c κs = search needs
+
+returns-2 : tie.Need-returns-2
+unfolding goodState
+returns-2 c = c .good-run .ensures ∙ sym (ap goodState (c .before .before .state .given .1))
+
+pub good-state-spec : {M : Type 1} → statement M
+good-state-spec =
+    tie.close (tie.spec enum-known-state enum-told returns good-run-requires returns-2)

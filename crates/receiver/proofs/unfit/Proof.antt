@@ -1,0 +1,25 @@
+-- The code computes the definition.
+use mathlib.Core.Path.{_∙_}
+use borrow.Author.Needs.{needs}
+use Rattle.receiver.proofs.unfit.Statement.{statement}
+use Rattle.receiver.proofs.unfit.Tie as tie
+
+good-settings-requires : tie.Need-good-settings-requires
+good-settings-requires c κs = search needs
+
+good-state-requires : tie.Need-good-state-requires
+good-state-requires c κs = search needs
+
+first-requires : tie.Need-first-requires
+first-requires c κs = search needs
+
+first-requires-2 : tie.Need-first-requires-2
+first-requires-2 c κs = search needs
+
+returns : tie.Need-returns
+returns c = c .first2 .ensures ∙ rw (c .before .first .ensures, c .before .before .good-state .ensures, c .before .before .before .good-settings .ensures)
+
+pub unfit-spec : {M : Type 1} → statement M
+unfit-spec =
+    tie.close
+    (tie.spec good-settings-requires good-state-requires first-requires first-requires-2 returns)

@@ -1,0 +1,270 @@
+// One step of the receiver, and the gap notice: document 01, 'The receiver'. The letters are the paper's: f is the filled length.
+use rules::Answer;
+use rules::Key;
+use rules::Settings;
+use rules::State;
+use rules::Step;
+use section::fields::last_section_number;
+use section::fields::section_number;
+use wire::both;
+use wire::first;
+ghost use mathlib.Core.Path.{_≡_};
+ghost use mathlib.Core.List.{List};
+ghost use Prim.Native.Nat.{ℕ, _+_, _≤_};
+ghost use lib.ListN.{length};
+ghost use lib.Dec.{leb};
+ghost use mathlib.Core.Bool.{not};
+ghost use Rattle.wire.specs.Choice.{first};
+ghost use Rattle.rules.specs.Section.{payload};
+ghost use Rattle.rules.specs.Step.{numberOf, lengthOf, goodSettings, goodRun, goodState, keyOf, sameKey, continues, From, onward, place, ours, payloadScrambled, overLimit, bar, room, refuse, laid, finish, keep, lay, stepOf, gapOf, Does};
+
+// The paper's number of an answer.
+pub fn number_of(answer: Answer) -> u8
+    ensures { λ r. ⌜ r ≡ numberOf answer ⌝ }
+{
+    match answer {
+        Answer::Delivered(_) => 0,
+        Answer::Stored => 1,
+        Answer::PassedBy => 2,
+        Answer::Refused(number) => number,
+    }
+}
+
+// The unit length that an answer carries.
+pub fn length_of(answer: Answer) -> usize
+    ensures { λ r. ⌜ r ≡ lengthOf answer ⌝ }
+{
+    match answer {
+        Answer::Delivered(length) => length,
+        Answer::Stored => 0,
+        Answer::PassedBy => 0,
+        Answer::Refused(_) => 0,
+    }
+}
+
+fn good_settings(settings: Settings) -> bool
+    ensures { λ r. ⌜ r ≡ goodSettings settings ⌝ }
+{
+    let range = settings.range;
+    let limit = settings.limit;
+    both(both(1 <= range, range <= 6), both(1 <= limit, limit <= 255))
+}
+
+// The product is computed only where it is small.
+fn good_run(next: usize, last: usize, filled: usize) -> bool
+    ensures { λ r. ⌜ r ≡ goodRun next last filled ⌝ }
+{
+    if !both(1 <= next, both(next <= last, last <= 254)) {
+        return false;
+    }
+    both(filled <= 65535, filled <= 4080 * next)
+}
+
+fn good_state(state: State) -> bool
+    ensures { λ r. ⌜ r ≡ goodState state ⌝ }
+{
+    let State::Open { next, filled, key } = state else {
+        return true;
+    };
+    let last = key.last;
+    good_run(next, last, filled)
+}
+
+fn key_of(s: &[u8]) -> Key
+    ensures { λ r. ⌜ r ≡ keyOf (now (s .entry)) ⌝ }
+{
+    Key {
+        last: last_section_number(s) as usize,
+        flag: section::fields::llc_snap_flag(s),
+    }
+}
+
+fn same_key(a: Key, b: Key) -> bool
+    ensures { λ r. ⌜ r ≡ sameKey a b ⌝ }
+{
+    both(a.last == b.last, a.flag == b.flag)
+}
+
+fn continues(next: usize, key: Key, s: &[u8]) -> bool
+    ensures { λ r. ⌜ r ≡ continues next key (now (s .entry)) ⌝ }
+{
+    both(section_number(s) as usize == next, same_key(key_of(s), key))
+}
+
+fn ours(settings: Settings, s: &[u8]) -> bool
+    ensures { λ r. ⌜ r ≡ ours settings (now (s .entry)) ⌝ }
+{
+    section::fields::same_address(
+        settings.range,
+        settings.address,
+        section::fields::address(s),
+    )
+}
+
+fn payload_scrambled(s: &[u8]) -> bool
+    ensures { λ r. ⌜ r ≡ payloadScrambled (now (s .entry)) ⌝ }
+{
+    section::fields::payload_scrambling_control(s) != 0
+}
+
+fn over_limit(settings: Settings, s: &[u8]) -> bool
+    ensures { λ r. ⌜ r ≡ overLimit settings (now (s .entry)) ⌝ }
+{
+    settings.limit < last_section_number(s) as usize + 1
+}
+
+// The first of 20 and 21 that applies, else 0.
+fn bar(settings: Settings, s: &[u8]) -> u8
+    ensures { λ r. ⌜ r ≡ bar settings (now (s .entry)) ⌝ }
+{
+    first(
+        payload_scrambled(s),
+        20,
+        first(over_limit(settings, s), 21, 0),
+    )
+}
+
+// The payload; a slice too short for one has none.
+fn payload(s: &[u8]) -> &[u8]
+    ensures { λ r. ⌜ now r ≡ payload (now (s .entry)) ⌝ }
+{
+    if s.len() < 16 {
+        return &s[..0];
+    }
+    let end = s.len() - 4;
+    &s[12..end]
+}
+
+// A refusal, whatever the buffer has.
+fn refuse(number: u8) -> Step
+    ensures { λ r. ⌜ ((b : List ℕ) → Does (refuse number b) r b) ⌝ }
+{
+    Step {
+        answer: Answer::Refused(number),
+        state: State::Idle,
+    }
+}
+
+// The unit is delivered, whatever the buffer has.
+fn finish(filled: usize) -> Step
+    ensures { λ r. ⌜ ((b : List ℕ) → Does (finish filled b) r b) ⌝ }
+{
+    Step {
+        answer: Answer::Delivered(filled),
+        state: State::Idle,
+    }
+}
+
+// Stores the payload at f.
+fn store(f: usize, s: &[u8], buffer: &mut [u8])
+    requires { ⌜ f + length (payload (now s)) ≤ length (now buffer) ⌝ }
+    ensures { λ _. ⌜ now (buffer .exit) ≡ laid f (now (s .entry)) (now (buffer .entry)) ⌝ }
+{
+    wire::copy(payload(s), &mut buffer[f..]);
+}
+
+// Stores a payload that fits. After the last section the unit is finished, else the run is open.
+fn keep(f: usize, s: &[u8], buffer: &mut [u8]) -> Step
+    requires { ⌜ f + length (payload (now s)) ≤ room (now buffer) ⌝ }
+    ensures { λ r. ⌜ Does (keep f (now (s .entry)) (now (buffer .entry))) r (now (buffer .exit)) ⌝ }
+{
+    store(f, s, buffer);
+    let filled = f + payload(s).len();
+    if section_number(s) == last_section_number(s) {
+        return finish(filled);
+    }
+    Step {
+        answer: Answer::Stored,
+        state: State::Open {
+            next: section_number(s) as usize + 1,
+            filled: filled,
+            key: key_of(s),
+        },
+    }
+}
+
+// f and n together are no more than the most; no sum is computed that could be too large.
+fn fits(f: usize, n: usize, most: usize) -> bool
+    ensures { λ r. ⌜ r ≡ leb (f + n) most ⌝ }
+{
+    if most < f {
+        return false;
+    }
+    n <= most - f
+}
+
+fn lay(f: usize, s: &[u8], buffer: &mut [u8]) -> Step
+    ensures { λ r. ⌜ Does (lay (From f) (now (s .entry)) (now (buffer .entry))) r (now (buffer .exit)) ⌝ }
+{
+    let room = wire::smaller(65535, buffer.len());
+    if fits(f, payload(s).len(), room) {
+        return keep(f, s, buffer);
+    }
+    refuse(23)
+}
+
+// Goes on with the open run: an idle state is refused, and so is a section that does not continue the run.
+fn continue_run(state: State, s: &[u8], buffer: &mut [u8]) -> Step
+    ensures { λ r. ⌜ Does (lay (onward state (now (s .entry))) (now (s .entry)) (now (buffer .entry))) r (now (buffer .exit)) ⌝ }
+{
+    let State::Open { next, filled, key } = state else {
+        return refuse(22);
+    };
+    if continues(next, key, s) {
+        return lay(filled, s, buffer);
+    }
+    refuse(22)
+}
+
+// Number 0 starts a run and forgets any open one; another number goes on with it.
+fn accept(state: State, s: &[u8], buffer: &mut [u8]) -> Step
+    ensures { λ r. ⌜ Does (lay (place state (now (s .entry))) (now (s .entry)) (now (buffer .entry))) r (now (buffer .exit)) ⌝ }
+{
+    if section_number(s) == 0 {
+        return lay(0, s, buffer);
+    }
+    continue_run(state, s, buffer)
+}
+
+// The first of 10 and 11 that applies, else 0.
+fn unfit(settings: Settings, state: State) -> u8
+    ensures { λ r. ⌜ r ≡ first (not (goodSettings settings)) 10 (first (not (goodState state)) 11 0) ⌝ }
+{
+    first(
+        !good_settings(settings),
+        10,
+        first(!good_state(state), 11, 0),
+    )
+}
+
+// Gives the receiver one section.
+pub fn receive(settings: Settings, state: State, s: &[u8], buffer: &mut [u8]) -> Step
+    ensures { λ r. ⌜ Does (stepOf settings state (now (s .entry)) (now (buffer .entry))) r (now (buffer .exit)) ⌝ }
+{
+    let unfit = unfit(settings, state);
+    if unfit != 0 {
+        return refuse(unfit);
+    }
+    let fault = section::check(s);
+    if fault != 0 {
+        return refuse(fault);
+    }
+    if !ours(settings, s) {
+        return Step {
+            answer: Answer::PassedBy,
+            state: state,
+        };
+    }
+    let bar = bar(settings, s);
+    if bar != 0 {
+        return refuse(bar);
+    }
+    accept(state, s, buffer)
+}
+
+// A gap notice: any state becomes idle.
+pub fn gap(state: State) -> State
+    ensures { λ r. ⌜ r ≡ gapOf state ⌝ }
+{
+    State::Idle
+}
