@@ -25,4 +25,8 @@ tight =
       fault = λ κs a z y e d p q. p ∙ sym q;
       check = λ κs a z y e d p q. p ∙ sym q;
       copy = λ κs a z y e d p q. p ∙ sym q;
+      receive = λ κs a z y e d p q. (p .step ∙ sym (q .step), p .buffer ∙ sym (q .buffer));
+      gap = λ κs a z y e d p q. p ∙ sym q;
+      number-of = λ κs a z y e d p q. p ∙ sym q;
+      length-of = λ κs a z y e d p q. p ∙ sym q;
     }

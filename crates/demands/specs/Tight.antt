@@ -9,6 +9,14 @@ use denote.Triple.Clauses.{AtExit}
 use borrow.Fn.Kinds.{PK, RK, Dens, resT, endedOf}
 use Rattle.wire.proofs.copy.Reads as copy-reads
 use Rattle.wire.proofs.copy.Kinds as copy-kinds
+use Rattle.receiver.proofs.receive.Reads as receive-reads
+use Rattle.receiver.proofs.receive.Kinds as receive-kinds
+use Rattle.receiver.proofs.gap.Reads as gap-reads
+use Rattle.receiver.proofs.gap.Kinds as gap-kinds
+use Rattle.receiver.proofs.number_of.Reads as number-of-reads
+use Rattle.receiver.proofs.number_of.Kinds as number-of-kinds
+use Rattle.receiver.proofs.length_of.Reads as length-of-reads
+use Rattle.receiver.proofs.length_of.Kinds as length-of-kinds
 use Rattle.wire.proofs.byte_at.Reads as byte-at-reads
 use Rattle.wire.proofs.byte_at.Kinds as byte-at-kinds
 use Rattle.wire.proofs.u16_at.Reads as u16-at-reads
@@ -62,6 +70,13 @@ CopyTight =
     (κs : Lfts 2) (a : Dens κs copy-kinds.ps) (z y : resT copy-kinds.r κs .Denot) (e d : AtExit (endedOf 2 copy-kinds.ps copy-kinds.r) κs)
     → copy-reads.Learnt κs a z e → copy-reads.Learnt κs a y d → now (e .1 .0) ≡ now (d .1 .0)
 
+-- what `receive` answers, the state after, and what it leaves in the buffer
+abbrev pub ReceiveTight : Type 0
+ReceiveTight =
+    (κs : Lfts 2) (a : Dens κs receive-kinds.ps) (z y : resT receive-kinds.r κs .Denot)
+    (e d : AtExit (endedOf 2 receive-kinds.ps receive-kinds.r) κs)
+    → receive-reads.Learnt κs a z e → receive-reads.Learnt κs a y d → (z ≡ y) × (now (e .1 .1 .1 .0) ≡ now (d .1 .1 .1 .0))
+
 pub record Tight : Type 0 where
   -- wire
   pub byte-at : OneResult 1 byte-at-kinds.ps byte-at-kinds.r byte-at-reads.Learnt
@@ -86,3 +101,8 @@ pub record Tight : Type 0 where
   pub header : OneResult 0 header-kinds.ps header-kinds.r header-reads.Learnt
   pub fault : OneResult 1 fault-kinds.ps fault-kinds.r fault-reads.Learnt
   pub check : OneResult 1 check-kinds.ps check-kinds.r check-reads.Learnt
+  -- receiver
+  pub receive : ReceiveTight
+  pub gap : OneResult 0 gap-kinds.ps gap-kinds.r gap-reads.Learnt
+  pub number-of : OneResult 0 number-of-kinds.ps number-of-kinds.r number-of-reads.Learnt
+  pub length-of : OneResult 0 length-of-kinds.ps length-of-kinds.r length-of-reads.Learnt
