@@ -1,17 +1,17 @@
 -- No refusal has the number 0 or 5, so a packet is answered 5 exactly where no line applies.
-use Prim.Native.Nat.{ℕ, _<_}
+use Prim.Native.Nat.{ℕ, _≤_}
 use native.Mathlib.Omega.{arith}
-use mathlib.Core.Path.{_≡_, refl}
-use mathlib.Core.List.{List, []}
+use mathlib.Core.Path.{_≡_, refl, sym}
+use mathlib.Core.List.{List}
 use mathlib.Core.Bool.{Bool, true, false}
 use lib.ListN.{length}
 use lib.Seq.{slice}
-use lib.Dec.{eqb, lit<}
-use borrow.Author.Tests.{eq-eqb, eqb-true}
+use lib.Dec.{eqb, ltb}
+use borrow.Author.Tests.{eq-eqb, eqb-true, ltb-false}
 use Rattle.wire.specs.Bytes.{byteAt, bits, numberAt}
-use Rattle.wire.specs.Choice.{pick, both, either, first, firstOf}
-use Rattle.pes_rules.specs.declared.Reading.{Reading}
-use Rattle.pes_rules.specs.Packet.{dataIdentifier, subStreamId, ptsExtensionFlag, outputDataRateFlag, flagged, ptsExtension, ratePlace, outputDataRate, privatePlace, dataPlace, wrongSize, otherIdentifier, wrongFlags, wrongHeaderLength, faultLines, fault, refused, taken, readOf}
+use Rattle.wire.specs.Choice.{pick, either, first, firstOf}
+use Rattle.wire.proofs.Choice.{never}
+use Rattle.pes_rules.specs.Packet.{dataIdentifier, subStreamId, ptsExtensionFlag, outputDataRateFlag, flagged, ptsExtension, ratePlace, outputDataRate, privatePlace, dataPlace, wrongSize, otherIdentifier, wrongFlags, wrongHeaderLength, fault, refused, taken, readOf}
 use Rattle.pes_rules.specs.Written.{Values, valuesOf}
 
 -- ---- the table
@@ -32,13 +32,13 @@ past-first true n rest h e = absurd (h e)
 past-first false n rest h e = (refl, e)
 
 not-five : (s : List ℕ) → fault s ≡ 5 → ⊥
-unfolding fault faultLines firstOf
+unfolding firstOf
 not-five s =
     not-first _ 40 _ 5 (λ e. omega arith)
     (not-first _ 41 _ 5 (λ e. omega arith) (not-first _ 42 _ 5 (λ e. omega arith) (not-first _ 43 0 5 (λ e. omega arith) (λ e. omega arith))))
 
 pub no-fault : (s : List ℕ) → fault s ≡ 0 → None s
-unfolding fault faultLines firstOf
+unfolding firstOf
 no-fault s e =
     let a = past-first _ 40 _ (λ z. omega arith) e in
     let b = past-first _ 41 _ (λ z. omega arith) (a .1) in
@@ -47,12 +47,12 @@ no-fault s e =
     record { no40 = a .0; no41 = b .0; no42 = c .0; no43 = d .0 }
 
 pub fault-none : (s : List ℕ) → None s → fault s ≡ 0
-unfolding fault faultLines firstOf first
+unfolding firstOf first
 fault-none s n = rw (n .no40, n .no41, n .no42, n .no43)
 
 -- ---- the answer
 pub answered : (s : List ℕ) → readOf s .answer ≡ 5 → fault s ≡ 0
-unfolding readOf refused pick
+unfolding readOf pick
 answered s = go (eqb (fault s) 0) refl
   where
     go : (t : Bool) → eqb (fault s) 0 ≡ t → pick t (taken s) (refused (fault s)) .answer ≡ 5 → fault s ≡ 0
@@ -81,5 +81,30 @@ takenValues s =
     }
 
 pub values-taken : (s : List ℕ) → fault s ≡ 0 → valuesOf s ≡ takenValues s
-unfolding valuesOf taken
+unfolding valuesOf
 values-taken s e = rw (read-taken s e)
+
+-- ---- the data's place
+within : (s : List ℕ) → wrongHeaderLength s ≡ false → dataPlace s ≤ length s
+unfolding either
+within s = go (ltb (dataPlace s) (privatePlace s))
+  where
+    go : (t : Bool) → either t (ltb (length s) (dataPlace s)) ≡ false → dataPlace s ≤ length s
+    go true e = absurd (never (sym e))
+    go false e = ltb-false (length s) (dataPlace s) e
+
+pub record Within (start end : ℕ) (s : List ℕ) : Type 0 where
+  pub order : start ≤ end
+  pub inside : end ≤ length s
+
+pub data-within : (s : List ℕ) → Within (readOf s .start) (readOf s .end) s
+unfolding readOf pick
+data-within s = go (eqb (fault s) 0) refl
+  where
+    go : (t : Bool) → eqb (fault s) 0 ≡ t → Within (pick t (taken s) (refused (fault s)) .start) (pick t (taken s) (refused (fault s)) .end) s
+    go true e =
+        record {
+          order = within s (no-fault s (eqb-true (fault s) 0 e) .no43);
+          inside = omega arith;
+        }
+    go false e = record { order = omega arith; inside = omega arith }

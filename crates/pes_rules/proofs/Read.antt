@@ -3,7 +3,7 @@ use Prim.Native.Nat.{ℕ, zero, suc, _+_, _*_, _-_, _/_, _%_, _^_, _≤_, _<_}
 use native.Mathlib.Nat.{mod-eq-of-lt}
 use lib.Arith.{mod-mul}
 use native.Mathlib.Omega.{arith}
-use mathlib.Core.Path.{_≡_, refl, sym, ap, ap₂, _∙_}
+use mathlib.Core.Path.{_≡_, refl, sym, ap, _∙_}
 use mathlib.Core.Logic.{_⊎_, inl, inr}
 use mathlib.Core.List.{List, [], _∷_, _++_}
 use mathlib.Core.Bool.{Bool, true, false, not}
@@ -14,8 +14,8 @@ use borrow.Author.Tests.{eqb-true, ltb-false}
 use Rattle.wire.specs.Bytes.{byteAt, bits, numberAt, bytesOf}
 use Rattle.wire.specs.Choice.{pick, both, either}
 use Rattle.wire.proofs.Choice.{never}
-use Rattle.pes_rules.specs.Packet.{dataIdentifier, subStreamId, ptsExtensionFlag, outputDataRateFlag, pesDataPacketHeaderLength, flagged, ptsExtension, ratePlace, outputDataRate, privatePlace, dataPlace, wrongSize, otherIdentifier, wrongFlags, wrongHeaderLength, readOf}
-use Rattle.pes_rules.specs.Written.{Bytes, Conforms, extensionField, flagsByte, IsWritten, optionalFields, packetOf, rateField, ReadIsWritten, Values, valuesOf}
+use Rattle.pes_rules.specs.Packet.{dataIdentifier, ptsExtensionFlag, outputDataRateFlag, pesDataPacketHeaderLength, flagged, ptsExtension, ratePlace, outputDataRate, privatePlace, dataPlace}
+use Rattle.pes_rules.specs.Written.{Bytes, Conforms, extensionField, flagsByte, IsWritten, optionalFields, packetOf, rateField, ReadIsWritten, Values}
 use Rattle.pes_rules.proofs.Answer.{answered, no-fault, None, takenValues, values-taken}
 use Rattle.pes_rules.proofs.Bytes.{bytesOf-numberAt, numberAt-lt, slice-bytes, slice-is}
 
@@ -85,35 +85,31 @@ three (a ∷ b ∷ c ∷ s) h = refl
 -- ---- the packet
 module _ (s : List ℕ) (h : Bytes s) (n : None s) where
   long : 3 ≤ length s
-  unfolding wrongSize
   long = ltb-false (length s) 3 (neither _ _ (n .no40) .0)
 
   short : length s ≤ 65535
-  unfolding wrongSize
   short = ltb-false 65535 (length s) (neither _ _ (n .no40) .1)
 
   behind : privatePlace s ≤ dataPlace s
-  unfolding wrongHeaderLength
   behind = ltb-false (dataPlace s) (privatePlace s) (neither _ _ (n .no43) .0)
 
   within : dataPlace s ≤ length s
-  unfolding wrongHeaderLength
   within = ltb-false (length s) (dataPlace s) (neither _ _ (n .no43) .1)
 
   extension-is : extensionField (takenValues s) ≡ take (flagged (ptsExtensionFlag s) 2) (drop 3 s)
-  unfolding extensionField ptsExtension privatePlace ratePlace
+  unfolding extensionField
   extension-is =
       let l : 3 + flagged (ptsExtensionFlag s) 2 ≤ length s = omega (arith, behind, within) in
       field-is (ptsExtensionFlag s) 2 3 9 (bits 15 9 (numberAt 2 s 3)) s h l (omega (arith, numberAt-lt 2 s 3 h))
 
   rate-is : rateField (takenValues s) ≡ take (flagged (outputDataRateFlag s) 4) (drop (ratePlace s) s)
-  unfolding rateField outputDataRate privatePlace
+  unfolding rateField
   rate-is =
       let l : ratePlace s + flagged (outputDataRateFlag s) 4 ≤ length s = omega (arith, behind, within) in
       field-is (outputDataRateFlag s) 4 (ratePlace s) 28 (bits 31 28 (numberAt 4 s (ratePlace s))) s h l (omega (arith, numberAt-lt 4 s (ratePlace s) h))
 
   optional-is : optionalFields (takenValues s) ≡ take (pesDataPacketHeaderLength s) (drop 3 s)
-  unfolding optionalFields privatePlace ratePlace dataPlace
+  unfolding optionalFields
   optional-is =
       let a : ℕ = flagged (ptsExtensionFlag s) 2 in
       let b : ℕ = flagged (outputDataRateFlag s) 4 in
@@ -122,13 +118,12 @@ module _ (s : List ℕ) (h : Bytes s) (n : None s) where
       (stretches s a b (dataPlace s - privatePlace s) ∙ ap (λ (m : ℕ). take m (drop 3 s)) k)
 
   header-is : length (optionalFields (takenValues s)) ≡ pesDataPacketHeaderLength s
-  unfolding dataPlace
   header-is =
       let l : pesDataPacketHeaderLength s ≤ length (drop 3 s) = omega (arith, within, length-drop 3 s) in
       ap length optional-is ∙ length-take-le (pesDataPacketHeaderLength s) (drop 3 s) l
 
   flags-is : flagsByte (takenValues s) ≡ byteAt s 2
-  unfolding flagsByte ptsExtensionFlag outputDataRateFlag pesDataPacketHeaderLength
+  unfolding flagsByte
   flags-is =
       let b : ℕ = byteAt s 2 in
       let f7 : flagged (ptsExtensionFlag s) 128 ≡ b / 128 % 2 * 128 = flag-bit (b / 128 % 2) 128 (omega arith) in
@@ -136,16 +131,14 @@ module _ (s : List ℕ) (h : Bytes s) (n : None s) where
       rw (f7, f6, header-is) (byte-parts b (h 2))
 
   data-is : slice (dataPlace s) (length s) s ≡ drop (pesDataPacketHeaderLength s) (drop 3 s)
-  unfolding dataPlace
   data-is = ap (drop (dataPlace s)) (take-length s) ∙ sym (drop-drop (pesDataPacketHeaderLength s) 3 s)
 
   written-is : packetOf (takenValues s) ≡ s
-  unfolding packetOf dataIdentifier subStreamId
+  unfolding packetOf
   written-is =
       rw (flags-is, optional-is, data-is, take-append-drop (pesDataPacketHeaderLength s) (drop 3 s)) (three s long)
 
   conforms : Conforms (takenValues s)
-  unfolding ptsExtension outputDataRate subStreamId pesDataPacketHeaderLength otherIdentifier wrongFlags
   conforms =
       record {
         stream = stream-of (dataIdentifier s) (ptsExtensionFlag s) (outputDataRateFlag s) (n .no41) (n .no42);

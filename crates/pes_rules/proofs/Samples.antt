@@ -6,7 +6,7 @@ use mathlib.Core.Bool.{Bool, true, false}
 use Rattle.wire.specs.Bytes.{numberAt}
 use Rattle.wire.specs.Choice.{pick, both, either, first, firstOf}
 use Rattle.pes_rules.specs.declared.Reading.{Reading}
-use Rattle.pes_rules.specs.Packet.{dataIdentifier, ptsExtensionFlag, outputDataRateFlag, pesDataPacketHeaderLength, flagged, ptsExtension, ratePlace, outputDataRate, privatePlace, dataPlace, wrongSize, otherIdentifier, wrongFlags, wrongHeaderLength, faultLines, fault, refused, taken, readOf, dataOf}
+use Rattle.pes_rules.specs.Packet.{flagged, refused, readOf, dataOf}
 
 -- a packet, what is read of it, and its data
 pub record Sample : Type 0 where
@@ -34,5 +34,5 @@ AllRight [] = Unit {0}
 AllRight (x ∷ xs) = (readOf (x .packet) ≡ x .reading) × (dataOf (x .packet) ≡ x .part) × AllRight xs
 
 pub all-right : AllRight samples
-unfolding samples readOf fault faultLines firstOf first wrongSize otherIdentifier wrongFlags wrongHeaderLength both either pick taken refused dataIdentifier ptsExtensionFlag outputDataRateFlag pesDataPacketHeaderLength flagged ptsExtension ratePlace outputDataRate privatePlace dataPlace numberAt
+unfolding samples readOf firstOf first both either pick flagged numberAt
 all-right = (refl, refl, (refl, refl, (refl, refl, (refl, refl, (refl, refl, tt)))))

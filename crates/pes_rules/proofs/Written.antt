@@ -1,5 +1,5 @@
 -- The bytes stand where table 1 puts them, so each field reads what was written there, and the lengths say where the parts end.
-use Prim.Native.Nat.{ℕ, zero, suc, _+_, _*_, _-_, _/_, _%_, _^_, _≤_, _<_}
+use Prim.Native.Nat.{ℕ, _+_, _*_, _-_, _/_, _%_, _^_, _≤_, _<_}
 use native.Mathlib.Nat.{mod-eq-of-lt}
 use native.Mathlib.Omega.{arith}
 use mathlib.Core.Path.{_≡_, refl, sym, ap, _∙_}
@@ -15,8 +15,8 @@ use Rattle.wire.specs.Bytes.{byteAt, bits, numberAt, bytesOf}
 use Rattle.wire.specs.Choice.{pick, both, either}
 use Rattle.wire.proofs.Bytes.{length-bytesOf, numberAt-bytesOf}
 use Rattle.wire.proofs.Choice.{not-either}
-use Rattle.pes_rules.specs.Packet.{dataIdentifier, subStreamId, ptsExtensionFlag, outputDataRateFlag, pesDataPacketHeaderLength, flagged, ptsExtension, ratePlace, outputDataRate, privatePlace, dataPlace, wrongSize, otherIdentifier, wrongFlags, wrongHeaderLength, taken, readOf}
-use Rattle.pes_rules.specs.Written.{Bytes, Conforms, extensionField, flagsByte, IsRead, optionalFields, packetOf, rateField, Values, valuesOf, WrittenIsRead}
+use Rattle.pes_rules.specs.Packet.{dataIdentifier, subStreamId, ptsExtensionFlag, outputDataRateFlag, pesDataPacketHeaderLength, flagged, ptsExtension, ratePlace, outputDataRate, privatePlace, dataPlace, wrongSize, otherIdentifier, wrongFlags, wrongHeaderLength, taken}
+use Rattle.pes_rules.specs.Written.{Bytes, Conforms, extensionField, flagsByte, IsRead, optionalFields, packetOf, rateField, Values, WrittenIsRead}
 use Rattle.pes_rules.proofs.Answer.{fault-none, None, read-taken, takenValues, values-taken}
 use Rattle.pes_rules.proofs.Bytes.{append-bytes, bytesOf-bytes, cons-bytes}
 
@@ -83,11 +83,11 @@ module _ (v : Values) (k : Conforms v) where
   byte2 = parts (v .ptsExtensionFlag) (v .outputDataRateFlag) (v .reserved2) (length (optionalFields v)) (k .flags) (k .header)
 
   identified : dataIdentifier s ≡ v .dataIdentifier
-  unfolding dataIdentifier packetOf
+  unfolding packetOf
   identified = refl
 
   subStream : subStreamId s ≡ v .subStreamId
-  unfolding subStreamId packetOf
+  unfolding packetOf
   subStream = refl
 
   reserved : bits 5 4 (byteAt s 2) ≡ v .reserved2
@@ -95,15 +95,15 @@ module _ (v : Values) (k : Conforms v) where
   reserved = byte2 .between
 
   extended : ptsExtensionFlag s ≡ v .ptsExtensionFlag
-  unfolding ptsExtensionFlag packetOf
+  unfolding packetOf
   extended = bit-flag _ (v .ptsExtensionFlag) (byte2 .seven)
 
   rated : outputDataRateFlag s ≡ v .outputDataRateFlag
-  unfolding outputDataRateFlag packetOf
+  unfolding packetOf
   rated = bit-flag _ (v .outputDataRateFlag) (byte2 .six)
 
   header : pesDataPacketHeaderLength s ≡ length (optionalFields v)
-  unfolding pesDataPacketHeaderLength packetOf
+  unfolding packetOf
   header = byte2 .low
 
   -- ---- lengths
@@ -116,15 +116,12 @@ module _ (v : Values) (k : Conforms v) where
   length-rate = length-field (v .outputDataRateFlag) 4 _
 
   place-rate : ratePlace s ≡ length (front (extensionField v))
-  unfolding ratePlace
   place-rate = rw extended (omega (arith, length-extension))
 
   place-private : privatePlace s ≡ length (front (extensionField v ++ rateField v))
-  unfolding privatePlace
   place-private = rw rated (omega (arith, place-rate, length-rate, length-append (extensionField v) (rateField v)))
 
   place-data : dataPlace s ≡ length (front (optionalFields v))
-  unfolding dataPlace
   place-data = omega (arith, header)
 
   length-packet : length s ≡ length (front (optionalFields v)) + length (v .dataBytes)
@@ -159,39 +156,38 @@ module _ (v : Values) (k : Conforms v) where
   abbrev behindRate : List ℕ
   behindRate = v .privateBytes ++ v .dataBytes
 
-  extension-low : flagged (v .ptsExtensionFlag) (numberAt 2 s 3 % 2 ^ 9) ≡ v .ptsExtension
+  extension-low : ptsExtension s ≡ v .ptsExtension
   unfolding extensionField
   extension-low =
-      rw body
+      rw (extended, body)
       (low-read 2 7 9 (v .reserved7) (v .ptsExtension) (front []) behindExtension refl (v .ptsExtensionFlag) (k .beforeExtension) (k .extension))
 
-  extension-high : flagged (v .ptsExtensionFlag) (bits 15 9 (numberAt 2 s 3)) ≡ v .reserved7
+  extension-high : flagged (ptsExtensionFlag s) (bits 15 9 (numberAt 2 s 3)) ≡ v .reserved7
   unfolding extensionField
   extension-high =
-      rw body
+      rw (extended, body)
       (high-read 2 7 9 (v .reserved7) (v .ptsExtension) (front []) behindExtension refl (v .ptsExtensionFlag) (k .beforeExtension) (k .extension))
 
-  rate-low : flagged (v .outputDataRateFlag) (numberAt 4 s (ratePlace s) % 2 ^ 28) ≡ v .outputDataRate
+  rate-low : outputDataRate s ≡ v .outputDataRate
   unfolding rateField
   rate-low =
-      rw (place-rate, body)
+      rw (rated, place-rate, body)
       (low-read 4 4 28 (v .reserved4) (v .outputDataRate) (front (extensionField v)) behindRate refl (v .outputDataRateFlag) (k .beforeRate) (k .rate))
 
-  rate-high : flagged (v .outputDataRateFlag) (bits 31 28 (numberAt 4 s (ratePlace s))) ≡ v .reserved4
+  rate-high : flagged (outputDataRateFlag s) (bits 31 28 (numberAt 4 s (ratePlace s))) ≡ v .reserved4
   unfolding rateField
   rate-high =
-      rw (place-rate, body)
+      rw (rated, place-rate, body)
       (high-read 4 4 28 (v .reserved4) (v .outputDataRate) (front (extensionField v)) behindRate refl (v .outputDataRateFlag) (k .beforeRate) (k .rate))
 
   -- ---- no line applies
   no40 : wrongSize s ≡ false
-  unfolding wrongSize
   no40 =
       let l : 3 ≤ length s = omega (arith, length-packet) in
       sym (not-either _ (le-ltb (length s) 3 l) (sym (le-ltb 65535 (length s) (k .size))))
 
   no41 : otherIdentifier s ≡ false
-  unfolding otherIdentifier dataIdentifier packetOf both
+  unfolding packetOf both
   no41 = go (v .dataIdentifier) (k .stream)
     where
       go : (n : ℕ) → ((n ≡ 0x21) × (v .ptsExtensionFlag ≡ true)) ⊎ ((n ≡ 0x22) × (v .outputDataRateFlag ≡ false))
@@ -200,7 +196,7 @@ module _ (v : Values) (k : Conforms v) where
       go n (inr p) = rw (p .0) refl
 
   no42 : wrongFlags s ≡ false
-  unfolding wrongFlags dataIdentifier packetOf both either
+  unfolding packetOf both either
   no42 = rw (extended, rated) (go (v .dataIdentifier) (v .ptsExtensionFlag) (v .outputDataRateFlag) (k .stream))
     where
       go : (n : ℕ) (e w : Bool) → ((n ≡ 0x21) × (e ≡ true)) ⊎ ((n ≡ 0x22) × (w ≡ false))
@@ -209,7 +205,7 @@ module _ (v : Values) (k : Conforms v) where
       go n e w (inr p) = rw (p .0, p .1) refl
 
   no43 : wrongHeaderLength s ≡ false
-  unfolding wrongHeaderLength optionalFields
+  unfolding optionalFields
   no43 =
       let l = length-append (extensionField v) (rateField v ++ v .privateBytes) in
       let m = length-append (rateField v) (v .privateBytes) in
@@ -241,11 +237,9 @@ module _ (v : Values) (k : Conforms v) where
 
   -- ---- every value is read back
   values : takenValues s ≡ v
-  unfolding ptsExtension outputDataRate
-  values = rw (extended, rated, extension-low, extension-high, rate-low, rate-high, privately, carried, identified, subStream, reserved) refl
+  values = rw (extension-low, extension-high, rate-low, rate-high, privately, carried, extended, rated, identified, subStream, reserved) refl
 
 pub written-is-read : WrittenIsRead
-unfolding taken
 written-is-read v k =
     let z = fault-none (packetOf v) (none v k) in
     record { bytes = bytes v k; answered = rw (read-taken (packetOf v) z) refl; values = values-taken (packetOf v) z ∙ values v k }
