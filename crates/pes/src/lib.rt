@@ -1,4 +1,4 @@
-// The PES data packet reader: document 01, 'The PES data packet', for every slice of every length. A byte that it does not have is 0.
+// The PES data packet reader: document 01, 'The PES data packet', for every slice of every length.
 use pes_rules::Reading;
 use wire::both;
 use wire::byte_at;

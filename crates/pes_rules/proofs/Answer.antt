@@ -6,11 +6,12 @@ use mathlib.Core.List.{List}
 use mathlib.Core.Bool.{Bool, true, false}
 use lib.ListN.{length}
 use lib.Seq.{slice}
-use lib.Dec.{eqb, ltb}
+use lib.Dec.{eqb}
 use borrow.Author.Tests.{eq-eqb, eqb-true, ltb-false}
 use Rattle.wire.specs.Bytes.{byteAt, bits, numberAt}
 use Rattle.wire.specs.Choice.{pick, either, first, firstOf}
 use Rattle.wire.proofs.Choice.{never}
+use Rattle.pes_rules.specs.declared.Reading.{Reading}
 use Rattle.pes_rules.specs.Packet.{dataIdentifier, subStreamId, ptsExtensionFlag, outputDataRateFlag, flagged, ptsExtension, ratePlace, outputDataRate, privatePlace, dataPlace, wrongSize, otherIdentifier, wrongFlags, wrongHeaderLength, fault, refused, taken, readOf}
 use Rattle.pes_rules.specs.Written.{Values, valuesOf}
 
@@ -21,29 +22,29 @@ pub record None (s : List ℕ) : Type 0 where
   pub no42 : wrongFlags s ≡ false
   pub no43 : wrongHeaderLength s ≡ false
 
-not-first : (t : Bool) (n rest m : ℕ) → (n ≡ m → ⊥) → (rest ≡ m → ⊥) → first t n rest ≡ m → ⊥
+first-not : (t : Bool) (n rest m : ℕ) → (n ≡ m → ⊥) → (rest ≡ m → ⊥) → first t n rest ≡ m → ⊥
 unfolding first
-not-first true n rest m h k e = h e
-not-first false n rest m h k e = k e
+first-not true n rest m h k e = h e
+first-not false n rest m h k e = k e
 
-past-first : (t : Bool) (n rest : ℕ) → (n ≡ 0 → ⊥) → first t n rest ≡ 0 → (t ≡ false) × (rest ≡ 0)
+first-past : (t : Bool) (n rest : ℕ) → (n ≡ 0 → ⊥) → first t n rest ≡ 0 → (t ≡ false) × (rest ≡ 0)
 unfolding first
-past-first true n rest h e = absurd (h e)
-past-first false n rest h e = (refl, e)
+first-past true n rest h e = absurd (h e)
+first-past false n rest h e = (refl, e)
 
 not-five : (s : List ℕ) → fault s ≡ 5 → ⊥
 unfolding firstOf
 not-five s =
-    not-first _ 40 _ 5 (λ e. omega arith)
-    (not-first _ 41 _ 5 (λ e. omega arith) (not-first _ 42 _ 5 (λ e. omega arith) (not-first _ 43 0 5 (λ e. omega arith) (λ e. omega arith))))
+    first-not _ _ _ 5 (λ e. omega arith) (first-not _ _ _ 5 (λ e. omega arith)
+    (first-not _ _ _ 5 (λ e. omega arith) (first-not _ _ 0 5 (λ e. omega arith) (λ e. omega arith))))
 
 pub no-fault : (s : List ℕ) → fault s ≡ 0 → None s
 unfolding firstOf
 no-fault s e =
-    let a = past-first _ 40 _ (λ z. omega arith) e in
-    let b = past-first _ 41 _ (λ z. omega arith) (a .1) in
-    let c = past-first _ 42 _ (λ z. omega arith) (b .1) in
-    let d = past-first _ 43 0 (λ z. omega arith) (c .1) in
+    let a = first-past _ _ _ (λ z. omega arith) e in
+    let b = first-past _ _ _ (λ z. omega arith) (a .1) in
+    let c = first-past _ _ _ (λ z. omega arith) (b .1) in
+    let d = first-past _ _ 0 (λ z. omega arith) (c .1) in
     record { no40 = a .0; no41 = b .0; no42 = c .0; no43 = d .0 }
 
 pub fault-none : (s : List ℕ) → None s → fault s ≡ 0
@@ -85,26 +86,23 @@ unfolding valuesOf
 values-taken s e = rw (read-taken s e)
 
 -- ---- the data's place
-within : (s : List ℕ) → wrongHeaderLength s ≡ false → dataPlace s ≤ length s
+pub neither : (t u : Bool) → either t u ≡ false → (t ≡ false) × (u ≡ false)
 unfolding either
-within s = go (ltb (dataPlace s) (privatePlace s))
-  where
-    go : (t : Bool) → either t (ltb (length s) (dataPlace s)) ≡ false → dataPlace s ≤ length s
-    go true e = absurd (never (sym e))
-    go false e = ltb-false (length s) (dataPlace s) e
+neither true u e = absurd (never (sym e))
+neither false u e = (refl, e)
+
+pub within : (s : List ℕ) → None s → dataPlace s ≤ length s
+within s n = ltb-false (length s) (dataPlace s) (neither _ _ (n .no43) .1)
 
 pub record Within (start end : ℕ) (s : List ℕ) : Type 0 where
   pub order : start ≤ end
   pub inside : end ≤ length s
 
-pub data-within : (s : List ℕ) → Within (readOf s .start) (readOf s .end) s
+pub data-within : (s : List ℕ) (r : Reading) → r ≡ readOf s → Within (r .start) (r .end) s
 unfolding readOf pick
-data-within s = go (eqb (fault s) 0) refl
+data-within s r e = rw e (go (eqb (fault s) 0) refl)
   where
-    go : (t : Bool) → eqb (fault s) 0 ≡ t → Within (pick t (taken s) (refused (fault s)) .start) (pick t (taken s) (refused (fault s)) .end) s
-    go true e =
-        record {
-          order = within s (no-fault s (eqb-true (fault s) 0 e) .no43);
-          inside = omega arith;
-        }
-    go false e = record { order = omega arith; inside = omega arith }
+    go : (t : Bool) → eqb (fault s) 0 ≡ t
+        → Within (pick t (taken s) (refused (fault s)) .start) (pick t (taken s) (refused (fault s)) .end) s
+    go true z = record { order = within s (no-fault s (eqb-true (fault s) 0 z)); inside = omega arith }
+    go false z = record { order = omega arith; inside = omega arith }

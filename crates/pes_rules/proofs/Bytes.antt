@@ -32,7 +32,8 @@ unfolding numberAt
 numberAt-lt zero s i h = lit< tt
 numberAt-lt (suc n) s i h = rw (pow-succ' 256 n) (digits-lt (h i) (numberAt-lt n s (i + 1) h))
 
-pub bytesOf-numberAt : (n : ℕ) (s : List ℕ) (i : ℕ) → Bytes s → i + n ≤ length s → bytesOf n (numberAt n s i) ≡ take n (drop i s)
+pub bytesOf-numberAt : (n : ℕ) (s : List ℕ) (i : ℕ) → Bytes s → i + n ≤ length s
+    → bytesOf n (numberAt n s i) ≡ take n (drop i s)
 unfolding numberAt bytesOf
 bytesOf-numberAt zero s i h k = refl
 bytesOf-numberAt (suc n) s i h k =

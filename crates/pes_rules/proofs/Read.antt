@@ -4,7 +4,7 @@ use native.Mathlib.Nat.{mod-eq-of-lt}
 use lib.Arith.{mod-mul}
 use native.Mathlib.Omega.{arith}
 use mathlib.Core.Path.{_≡_, refl, sym, ap, _∙_}
-use mathlib.Core.Logic.{_⊎_, inl, inr}
+use mathlib.Core.Logic.{inl, inr}
 use mathlib.Core.List.{List, [], _∷_, _++_}
 use mathlib.Core.Bool.{Bool, true, false, not}
 use lib.ListN.{length, take, drop, length-drop, length-take, take-append-drop}
@@ -15,24 +15,19 @@ use Rattle.wire.specs.Bytes.{byteAt, bits, numberAt, bytesOf}
 use Rattle.wire.specs.Choice.{pick, both, either}
 use Rattle.wire.proofs.Choice.{never}
 use Rattle.pes_rules.specs.Packet.{dataIdentifier, ptsExtensionFlag, outputDataRateFlag, pesDataPacketHeaderLength, flagged, ptsExtension, ratePlace, outputDataRate, privatePlace, dataPlace}
-use Rattle.pes_rules.specs.Written.{Bytes, Conforms, extensionField, flagsByte, IsWritten, optionalFields, packetOf, rateField, ReadIsWritten, Values}
-use Rattle.pes_rules.proofs.Answer.{answered, no-fault, None, takenValues, values-taken}
+use Rattle.pes_rules.specs.Written.{Bytes, Conforms, extensionField, flagsByte, IsWritten, optionalFields, packetOf, rateField, ReadIsWritten, Stream, Values}
+use Rattle.pes_rules.proofs.Answer.{answered, neither, no-fault, None, takenValues, values-taken, within}
 use Rattle.pes_rules.proofs.Bytes.{bytesOf-numberAt, numberAt-lt, slice-bytes, slice-is}
 
--- ---- tests that are not met
-pub neither : (t u : Bool) → either t u ≡ false → (t ≡ false) × (u ≡ false)
-unfolding either
-neither true u e = absurd (never (sym e))
-neither false u e = (refl, e)
-
+-- ---- identifier and flags
 stream-of : (n : ℕ) (e w : Bool) → both (not (eqb n 0x21)) (not (eqb n 0x22)) ≡ false
     → either (both (eqb n 0x21) (not e)) (both (eqb n 0x22) w) ≡ false
-    → ((n ≡ 0x21) × (e ≡ true)) ⊎ ((n ≡ 0x22) × (w ≡ false))
+    → Stream n e w
 unfolding both either
 stream-of n e w = go (eqb n 0x21) (eqb n 0x22) e w refl refl
   where
-    go : (t u e w : Bool) → eqb n 0x21 ≡ t → eqb n 0x22 ≡ u → both (not t) (not u) ≡ false → either (both t (not e)) (both u w) ≡ false
-        → ((n ≡ 0x21) × (e ≡ true)) ⊎ ((n ≡ 0x22) × (w ≡ false))
+    go : (t u e w : Bool) → eqb n 0x21 ≡ t → eqb n 0x22 ≡ u → both (not t) (not u) ≡ false
+        → either (both t (not e)) (both u w) ≡ false → Stream n e w
     go true u true w a b h k = inl (eqb-true n 0x21 a, refl)
     go true u false w a b h k = absurd (never (sym k))
     go false true e true a b h k = absurd (never (sym k))
@@ -63,7 +58,8 @@ byte-parts b h =
 -- a field of n bytes at i, its k low bits and those above them put together again
 field-is : (flag : Bool) (n i k high : ℕ) (s : List ℕ) → Bytes s → i + flagged flag n ≤ length s
     → high * 2 ^ k + numberAt n s i % 2 ^ k ≡ numberAt n s i
-    → pick flag (bytesOf n (flagged flag high * 2 ^ k + flagged flag (numberAt n s i % 2 ^ k))) [] ≡ take (flagged flag n) (drop i s)
+    → pick flag (bytesOf n (flagged flag high * 2 ^ k + flagged flag (numberAt n s i % 2 ^ k))) []
+    ≡ take (flagged flag n) (drop i s)
 unfolding flagged pick
 field-is true n i k high s h l e = ap (bytesOf n) e ∙ bytesOf-numberAt n s i h l
 field-is false n i k high s h l e = refl
@@ -93,20 +89,18 @@ module _ (s : List ℕ) (h : Bytes s) (n : None s) where
   behind : privatePlace s ≤ dataPlace s
   behind = ltb-false (dataPlace s) (privatePlace s) (neither _ _ (n .no43) .0)
 
-  within : dataPlace s ≤ length s
-  within = ltb-false (length s) (dataPlace s) (neither _ _ (n .no43) .1)
-
   extension-is : extensionField (takenValues s) ≡ take (flagged (ptsExtensionFlag s) 2) (drop 3 s)
   unfolding extensionField
   extension-is =
-      let l : 3 + flagged (ptsExtensionFlag s) 2 ≤ length s = omega (arith, behind, within) in
+      let l : 3 + flagged (ptsExtensionFlag s) 2 ≤ length s = omega (arith, behind, within s n) in
       field-is (ptsExtensionFlag s) 2 3 9 (bits 15 9 (numberAt 2 s 3)) s h l (omega (arith, numberAt-lt 2 s 3 h))
 
   rate-is : rateField (takenValues s) ≡ take (flagged (outputDataRateFlag s) 4) (drop (ratePlace s) s)
   unfolding rateField
   rate-is =
-      let l : ratePlace s + flagged (outputDataRateFlag s) 4 ≤ length s = omega (arith, behind, within) in
-      field-is (outputDataRateFlag s) 4 (ratePlace s) 28 (bits 31 28 (numberAt 4 s (ratePlace s))) s h l (omega (arith, numberAt-lt 4 s (ratePlace s) h))
+      let x : ℕ = numberAt 4 s (ratePlace s) in
+      let l : ratePlace s + flagged (outputDataRateFlag s) 4 ≤ length s = omega (arith, behind, within s n) in
+      field-is (outputDataRateFlag s) 4 (ratePlace s) 28 (bits 31 28 x) s h l (omega (arith, numberAt-lt 4 s (ratePlace s) h))
 
   optional-is : optionalFields (takenValues s) ≡ take (pesDataPacketHeaderLength s) (drop 3 s)
   unfolding optionalFields
@@ -119,7 +113,7 @@ module _ (s : List ℕ) (h : Bytes s) (n : None s) where
 
   header-is : length (optionalFields (takenValues s)) ≡ pesDataPacketHeaderLength s
   header-is =
-      let l : pesDataPacketHeaderLength s ≤ length (drop 3 s) = omega (arith, within, length-drop 3 s) in
+      let l : pesDataPacketHeaderLength s ≤ length (drop 3 s) = omega (arith, within s n, length-drop 3 s) in
       ap length optional-is ∙ length-take-le (pesDataPacketHeaderLength s) (drop 3 s) l
 
   flags-is : flagsByte (takenValues s) ≡ byteAt s 2
@@ -143,7 +137,7 @@ module _ (s : List ℕ) (h : Bytes s) (n : None s) where
       record {
         stream = stream-of (dataIdentifier s) (ptsExtensionFlag s) (outputDataRateFlag s) (n .no41) (n .no42);
         subStream = h 1;
-        flags = omega arith;
+        beforeLength = omega arith;
         header = omega (arith, header-is);
         beforeExtension = flagged-lt (ptsExtensionFlag s) (bits 15 9 (numberAt 2 s 3)) 7 (omega arith);
         extension = flagged-lt (ptsExtensionFlag s) (numberAt 2 s 3 % 2 ^ 9) 9 (omega arith);

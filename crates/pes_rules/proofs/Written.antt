@@ -3,7 +3,7 @@ use Prim.Native.Nat.{ℕ, _+_, _*_, _-_, _/_, _%_, _^_, _≤_, _<_}
 use native.Mathlib.Nat.{mod-eq-of-lt}
 use native.Mathlib.Omega.{arith}
 use mathlib.Core.Path.{_≡_, refl, sym, ap, _∙_}
-use mathlib.Core.Logic.{_⊎_, inl, inr}
+use mathlib.Core.Logic.{inl, inr}
 use mathlib.Core.List.{List, [], _∷_, _++_, append-assoc}
 use mathlib.Core.Bool.{Bool, true, false, not}
 use lib.Arith.{digits-div, digits-lt, digits-mod, lt-one}
@@ -16,7 +16,7 @@ use Rattle.wire.specs.Choice.{pick, both, either}
 use Rattle.wire.proofs.Bytes.{length-bytesOf, numberAt-bytesOf}
 use Rattle.wire.proofs.Choice.{not-either}
 use Rattle.pes_rules.specs.Packet.{dataIdentifier, subStreamId, ptsExtensionFlag, outputDataRateFlag, pesDataPacketHeaderLength, flagged, ptsExtension, ratePlace, outputDataRate, privatePlace, dataPlace, wrongSize, otherIdentifier, wrongFlags, wrongHeaderLength, taken}
-use Rattle.pes_rules.specs.Written.{Bytes, Conforms, extensionField, flagsByte, IsRead, optionalFields, packetOf, rateField, Values, WrittenIsRead}
+use Rattle.pes_rules.specs.Written.{Bytes, Conforms, extensionField, flagsByte, IsRead, optionalFields, packetOf, rateField, Stream, Values, WrittenIsRead}
 use Rattle.pes_rules.proofs.Answer.{fault-none, None, read-taken, takenValues, values-taken}
 use Rattle.pes_rules.proofs.Bytes.{append-bytes, bytesOf-bytes, cons-bytes}
 
@@ -35,10 +35,14 @@ record Parts (b : ℕ) (e w : Bool) (r l : ℕ) : Type 0 where
 
 parts : (e w : Bool) (r l : ℕ) → r < 4 → l < 16 → Parts (flagged e 128 + flagged w 64 + r * 16 + l) e w r l
 unfolding flagged pick
-parts true true r l h k = record { seven = omega arith; six = omega arith; between = omega arith; low = omega arith; fits = omega arith }
-parts true false r l h k = record { seven = omega arith; six = omega arith; between = omega arith; low = omega arith; fits = omega arith }
-parts false true r l h k = record { seven = omega arith; six = omega arith; between = omega arith; low = omega arith; fits = omega arith }
-parts false false r l h k = record { seven = omega arith; six = omega arith; between = omega arith; low = omega arith; fits = omega arith }
+parts true true r l h k =
+    record { seven = omega arith; six = omega arith; between = omega arith; low = omega arith; fits = omega arith }
+parts true false r l h k =
+    record { seven = omega arith; six = omega arith; between = omega arith; low = omega arith; fits = omega arith }
+parts false true r l h k =
+    record { seven = omega arith; six = omega arith; between = omega arith; low = omega arith; fits = omega arith }
+parts false false r l h k =
+    record { seven = omega arith; six = omega arith; between = omega arith; low = omega arith; fits = omega arith }
 
 -- ---- a field of n bytes behind p: j high bits and k low bits
 length-field : (flag : Bool) (n x : ℕ) → length (pick flag (bytesOf n x) []) ≡ flagged flag n
@@ -55,7 +59,8 @@ module _ (n j k high low : ℕ) (p q : List ℕ) (w : 2 ^ j * 2 ^ k ≡ 256 ^ n)
   abbrev behind : Bool → List ℕ
   behind flag = p ++ (pick flag (bytesOf n (high * 2 ^ k + low)) [] ++ q)
 
-  whole : high < 2 ^ j → low < 2 ^ k → numberAt n (p ++ (bytesOf n (high * 2 ^ k + low) ++ q)) (length p) ≡ high * 2 ^ k + low
+  whole : high < 2 ^ j → low < 2 ^ k
+      → numberAt n (p ++ (bytesOf n (high * 2 ^ k + low) ++ q)) (length p) ≡ high * 2 ^ k + low
   whole h l = numberAt-bytesOf n (high * 2 ^ k + low) p q ∙ mod-eq-of-lt (rw (← w) (digits-lt h l))
 
   low-read : (flag : Bool) → high < 2 ^ flagged flag j → low < 2 ^ flagged flag k
@@ -67,7 +72,9 @@ module _ (n j k high low : ℕ) (p q : List ℕ) (w : 2 ^ j * 2 ^ k ≡ 256 ^ n)
   high-read : (flag : Bool) → high < 2 ^ flagged flag j → low < 2 ^ flagged flag k
       → flagged flag (numberAt n (behind flag) (length p) / 2 ^ k % 2 ^ j) ≡ high
   unfolding flagged pick
-  high-read true h l = ap (λ (x : ℕ). x / 2 ^ k % 2 ^ j) (whole h l) ∙ ap (λ (x : ℕ). x % 2 ^ j) (digits-div high l) ∙ mod-eq-of-lt h
+  high-read true h l =
+      ap (λ (x : ℕ). x / 2 ^ k % 2 ^ j) (whole h l)
+      ∙ ap (λ (x : ℕ). x % 2 ^ j) (digits-div high l) ∙ mod-eq-of-lt h
   high-read false h l = sym (lt-one h)
 
 -- ---- the packet
@@ -80,7 +87,9 @@ module _ (v : Values) (k : Conforms v) where
 
   byte2 : Parts (flagsByte v) (v .ptsExtensionFlag) (v .outputDataRateFlag) (v .reserved2) (length (optionalFields v))
   unfolding flagsByte
-  byte2 = parts (v .ptsExtensionFlag) (v .outputDataRateFlag) (v .reserved2) (length (optionalFields v)) (k .flags) (k .header)
+  byte2 =
+      parts (v .ptsExtensionFlag) (v .outputDataRateFlag) (v .reserved2) (length (optionalFields v)) (k .beforeLength)
+      (k .header)
 
   identified : dataIdentifier s ≡ v .dataIdentifier
   unfolding packetOf
@@ -140,7 +149,8 @@ module _ (v : Values) (k : Conforms v) where
   unfolding packetOf optionalFields
   privately =
       ap (drop (privatePlace s)) (take-at (front (optionalFields v)) (v .dataBytes) (dataPlace s) (sym place-data))
-      ∙ ap (λ (l : List ℕ). drop (privatePlace s) (front l)) (sym (append-assoc (extensionField v) (rateField v) (v .privateBytes)))
+      ∙ ap (λ (l : List ℕ). drop (privatePlace s) (front l))
+      (sym (append-assoc (extensionField v) (rateField v) (v .privateBytes)))
       ∙ drop-at (front (extensionField v ++ rateField v)) (v .privateBytes) (privatePlace s) (sym place-private)
 
   carried : slice (dataPlace s) (length s) s ≡ v .dataBytes
@@ -160,25 +170,29 @@ module _ (v : Values) (k : Conforms v) where
   unfolding extensionField
   extension-low =
       rw (extended, body)
-      (low-read 2 7 9 (v .reserved7) (v .ptsExtension) (front []) behindExtension refl (v .ptsExtensionFlag) (k .beforeExtension) (k .extension))
+      (low-read 2 7 9 (v .reserved7) (v .ptsExtension) (front []) behindExtension refl
+      (v .ptsExtensionFlag) (k .beforeExtension) (k .extension))
 
   extension-high : flagged (ptsExtensionFlag s) (bits 15 9 (numberAt 2 s 3)) ≡ v .reserved7
   unfolding extensionField
   extension-high =
       rw (extended, body)
-      (high-read 2 7 9 (v .reserved7) (v .ptsExtension) (front []) behindExtension refl (v .ptsExtensionFlag) (k .beforeExtension) (k .extension))
+      (high-read 2 7 9 (v .reserved7) (v .ptsExtension) (front []) behindExtension refl
+      (v .ptsExtensionFlag) (k .beforeExtension) (k .extension))
 
   rate-low : outputDataRate s ≡ v .outputDataRate
   unfolding rateField
   rate-low =
       rw (rated, place-rate, body)
-      (low-read 4 4 28 (v .reserved4) (v .outputDataRate) (front (extensionField v)) behindRate refl (v .outputDataRateFlag) (k .beforeRate) (k .rate))
+      (low-read 4 4 28 (v .reserved4) (v .outputDataRate) (front (extensionField v)) behindRate refl
+      (v .outputDataRateFlag) (k .beforeRate) (k .rate))
 
   rate-high : flagged (outputDataRateFlag s) (bits 31 28 (numberAt 4 s (ratePlace s))) ≡ v .reserved4
   unfolding rateField
   rate-high =
       rw (rated, place-rate, body)
-      (high-read 4 4 28 (v .reserved4) (v .outputDataRate) (front (extensionField v)) behindRate refl (v .outputDataRateFlag) (k .beforeRate) (k .rate))
+      (high-read 4 4 28 (v .reserved4) (v .outputDataRate) (front (extensionField v)) behindRate refl
+      (v .outputDataRateFlag) (k .beforeRate) (k .rate))
 
   -- ---- no line applies
   no40 : wrongSize s ≡ false
@@ -190,7 +204,7 @@ module _ (v : Values) (k : Conforms v) where
   unfolding packetOf both
   no41 = go (v .dataIdentifier) (k .stream)
     where
-      go : (n : ℕ) → ((n ≡ 0x21) × (v .ptsExtensionFlag ≡ true)) ⊎ ((n ≡ 0x22) × (v .outputDataRateFlag ≡ false))
+      go : (n : ℕ) → Stream n (v .ptsExtensionFlag) (v .outputDataRateFlag)
           → both (not (eqb n 0x21)) (not (eqb n 0x22)) ≡ false
       go n (inl p) = rw (p .0) refl
       go n (inr p) = rw (p .0) refl
@@ -199,7 +213,7 @@ module _ (v : Values) (k : Conforms v) where
   unfolding packetOf both either
   no42 = rw (extended, rated) (go (v .dataIdentifier) (v .ptsExtensionFlag) (v .outputDataRateFlag) (k .stream))
     where
-      go : (n : ℕ) (e w : Bool) → ((n ≡ 0x21) × (e ≡ true)) ⊎ ((n ≡ 0x22) × (w ≡ false))
+      go : (n : ℕ) (e w : Bool) → Stream n e w
           → either (both (eqb n 0x21) (not e)) (both (eqb n 0x22) w) ≡ false
       go n e w (inl p) = rw (p .0, p .1) refl
       go n e w (inr p) = rw (p .0, p .1) refl
@@ -209,7 +223,8 @@ module _ (v : Values) (k : Conforms v) where
   no43 =
       let l = length-append (extensionField v) (rateField v ++ v .privateBytes) in
       let m = length-append (rateField v) (v .privateBytes) in
-      let a : privatePlace s ≤ dataPlace s = omega (arith, place-private, place-data, length-append (extensionField v) (rateField v), l, m) in
+      let o = length-append (extensionField v) (rateField v) in
+      let a : privatePlace s ≤ dataPlace s = omega (arith, place-private, place-data, l, m, o) in
       let b : dataPlace s ≤ length s = omega (arith, place-data, length-packet) in
       sym (not-either _ (le-ltb (dataPlace s) (privatePlace s) a) (sym (le-ltb (length s) (dataPlace s) b)))
 
@@ -220,7 +235,7 @@ module _ (v : Values) (k : Conforms v) where
   identifier-lt : v .dataIdentifier < 256
   identifier-lt = go (v .dataIdentifier) (k .stream)
     where
-      go : (n : ℕ) → ((n ≡ 0x21) × (v .ptsExtensionFlag ≡ true)) ⊎ ((n ≡ 0x22) × (v .outputDataRateFlag ≡ false)) → n < 256
+      go : (n : ℕ) → Stream n (v .ptsExtensionFlag) (v .outputDataRateFlag) → n < 256
       go n (inl p) = omega (arith, p .0)
       go n (inr p) = omega (arith, p .0)
 
@@ -237,9 +252,15 @@ module _ (v : Values) (k : Conforms v) where
 
   -- ---- every value is read back
   values : takenValues s ≡ v
-  values = rw (extension-low, extension-high, rate-low, rate-high, privately, carried, extended, rated, identified, subStream, reserved) refl
+  values =
+      rw (extension-low, extension-high, rate-low, rate-high, privately, carried)
+      (rw (extended, rated, identified, subStream, reserved) refl)
 
 pub written-is-read : WrittenIsRead
 written-is-read v k =
     let z = fault-none (packetOf v) (none v k) in
-    record { bytes = bytes v k; answered = rw (read-taken (packetOf v) z) refl; values = values-taken (packetOf v) z ∙ values v k }
+    record {
+      bytes = bytes v k;
+      answered = rw (read-taken (packetOf v) z) refl;
+      values = values-taken (packetOf v) z ∙ values v k;
+    }

@@ -1,4 +1,4 @@
--- The PES_data_packet: EN 301 192 V1.3.1, clause 6.1, table 1, and a page of the V1.4.1 draft; document 01, 'The PES data packet'.
+-- The PES_data_packet: EN 301 192 V1.3.1, clause 6.1, table 1; document 01, 'The PES data packet'.
 -- Bytes are counted from 0, and bit 7 of a byte is the highest. Reserved bits are not looked at.
 use Prim.Native.Nat.{ℕ, _+_, _%_, _^_}
 use mathlib.Core.List.{List, [], _∷_}
@@ -65,9 +65,10 @@ otherIdentifier s = both (not (eqb (dataIdentifier s) 0x21)) (not (eqb (dataIden
 -- 42: "for 0x21 no extension flag, for 0x22 a rate flag"
 abbrev pub wrongFlags : List ℕ → Bool
 wrongFlags s =
-    either (both (eqb (dataIdentifier s) 0x21) (not (ptsExtensionFlag s))) (both (eqb (dataIdentifier s) 0x22) (outputDataRateFlag s))
+    either (both (eqb (dataIdentifier s) 0x21) (not (ptsExtensionFlag s)))
+    (both (eqb (dataIdentifier s) 0x22) (outputDataRateFlag s))
 
--- 43: "H below the flagged fields or 3 + H beyond the packet"
+-- 43: "H below the flagged fields or 3 + H beyond the packet": the data would begin inside the fields, or behind the packet
 abbrev pub wrongHeaderLength : List ℕ → Bool
 wrongHeaderLength s = either (ltb (dataPlace s) (privatePlace s)) (ltb (length s) (dataPlace s))
 

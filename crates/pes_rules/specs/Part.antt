@@ -5,7 +5,7 @@ use mathlib.Core.List.{List}
 use lib.Seq.{slice}
 use denote.Ref.{RefT, ptr, now}
 
--- `part` is the part of `whole` from one index up to, not including, another: its bytes, and its address, a block and a place there
+-- `part` is `whole` from index start up to, not including, index end: its bytes, and its address, a block and a place in it
 pub record Part (whole : RefT (List ℕ)) (start end : ℕ) (part : RefT (List ℕ)) : Type 0 where
   pub bytes : now part ≡ slice start end (now whole)
   pub block : ptr part .0 ≡ ptr whole .0

@@ -1,4 +1,4 @@
--- Table 1 both ways: what is read was written so, and what is written so is read. Both are theorems, shown in proofs/Written.antt.
+-- Table 1 both ways: what is read was written so, and what is written so is read. proofs/Read.antt and Written.antt show both.
 use Prim.Native.Nat.{ℕ, _+_, _*_, _^_, _≤_, _<_}
 use mathlib.Core.Path.{_≡_}
 use mathlib.Core.Logic.{_⊎_}
@@ -39,7 +39,8 @@ optionalFields v = extensionField v ++ (rateField v ++ v .privateBytes)
 -- both flags, 2 reserved bits, and PES_data_packet_header_length
 unfoldable pub flagsByte : Values → ℕ
 flagsByte v =
-    flagged (v .ptsExtensionFlag) (2 ^ 7) + flagged (v .outputDataRateFlag) (2 ^ 6) + v .reserved2 * 2 ^ 4 + length (optionalFields v)
+    flagged (v .ptsExtensionFlag) (2 ^ 7) + flagged (v .outputDataRateFlag) (2 ^ 6) + v .reserved2 * 2 ^ 4
+    + length (optionalFields v)
 
 -- the packet that table 1 writes
 unfoldable pub packetOf : Values → List ℕ
@@ -49,12 +50,16 @@ packetOf v = v .dataIdentifier ∷ v .subStreamId ∷ flagsByte v ∷ (optionalF
 abbrev pub Bytes : List ℕ → Type 0
 Bytes s = (i : ℕ) → byteAt s i < 2 ^ 8
 
--- table 1 can write these values: each fits its bits, of which a field that is not flagged has none; a synchronous packet has a
--- PTS_extension, a synchronized one no output_data_rate; the packet has up to 65,535 bytes
+-- a synchronous packet has a PTS_extension, a synchronized one no output_data_rate
+abbrev pub Stream : ℕ → Bool → Bool → Type 0
+Stream identifier extended rated = ((identifier ≡ 0x21) × (extended ≡ true)) ⊎ ((identifier ≡ 0x22) × (rated ≡ false))
+
+-- table 1 can write these values: each fits its bits, of which a field that is not flagged has none; the header's length fits
+-- too, and the packet has up to 65,535 bytes
 pub record Conforms (v : Values) : Type 0 where
-  pub stream : ((v .dataIdentifier ≡ 0x21) × (v .ptsExtensionFlag ≡ true)) ⊎ ((v .dataIdentifier ≡ 0x22) × (v .outputDataRateFlag ≡ false))
+  pub stream : Stream (v .dataIdentifier) (v .ptsExtensionFlag) (v .outputDataRateFlag)
   pub subStream : v .subStreamId < 2 ^ 8
-  pub flags : v .reserved2 < 2 ^ 2
+  pub beforeLength : v .reserved2 < 2 ^ 2
   pub header : length (optionalFields v) < 2 ^ 4
   pub beforeExtension : v .reserved7 < 2 ^ flagged (v .ptsExtensionFlag) 7
   pub extension : v .ptsExtension < 2 ^ flagged (v .ptsExtensionFlag) 9

@@ -3,6 +3,7 @@ use Rattle.pes_rules.proofs.Answer.{data-within}
 use Rattle.pes_rules.proofs.Bytes.{slice-is}
 use mathlib.Core.Path.{sym, refl}
 use denote.Ref.{now}
+use native.Mathlib.Omega.{arith}
 use borrow.Author.Needs.{needs}
 use Rattle.pes.proofs.data.Statement.{statement}
 use Rattle.pes.proofs.data.Tie as tie
@@ -11,13 +12,19 @@ read-requires : tie.Need-read-requires
 read-requires c κs = search needs
 
 sub-result : tie.Need-sub-result
-sub-result c = rw (c .read .ensures) (data-within (now (c .before .before .args .packet)) .order)
+sub-result c =
+    let w = data-within (now (c .before .before .args .packet)) _ (c .read .ensures) in
+    omega (arith, w .order, w .inside)
 
 part-result-start : tie.Need-part-result-start
-part-result-start c = rw (c .read .ensures) (data-within (now (c .before .before .args .packet)) .order)
+part-result-start c =
+    let w = data-within (now (c .before .before .args .packet)) _ (c .read .ensures) in
+    omega (arith, w .order, w .inside)
 
 part-result-end : tie.Need-part-result-end
-part-result-end c = rw (c .read .ensures) (data-within (now (c .before .before .args .packet)) .inside)
+part-result-end c =
+    let w = data-within (now (c .before .before .args .packet)) _ (c .read .ensures) in
+    omega (arith, w .order, w .inside)
 
 returns : tie.Need-returns
 returns c =

@@ -20,7 +20,9 @@ cast-result c = search needs
 
 returns : tie.Need-returns
 unfolding flagged
-returns c = yes-pick _ 0 (was (c .before .before .before .output-data-rate-flag .ensures) (c .before .before .if1 .taken)) (rw (c .u32-at .ensures .is, c .before .rate-place .ensures .is))
+returns c =
+    let flag = was (c .before .before .before .output-data-rate-flag .ensures) (c .before .before .if1 .taken) in
+    yes-pick _ 0 flag (rw (c .u32-at .ensures .is, c .before .rate-place .ensures .is))
 
 returns-2 : tie.Need-returns-2
 unfolding flagged

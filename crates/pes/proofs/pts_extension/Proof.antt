@@ -17,7 +17,9 @@ cast-result c = search needs
 
 returns : tie.Need-returns
 unfolding flagged
-returns c = yes-pick _ 0 (was (c .before .before .pts-extension-flag .ensures) (c .before .if1 .taken)) (rw (c .u16-at .ensures .is))
+returns c =
+    let flag = was (c .before .before .pts-extension-flag .ensures) (c .before .if1 .taken) in
+    yes-pick _ 0 flag (rw (c .u16-at .ensures .is))
 
 returns-2 : tie.Need-returns-2
 unfolding flagged

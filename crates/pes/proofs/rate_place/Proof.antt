@@ -14,7 +14,9 @@ add-result : tie.Need-add-result
 add-result c = search needs
 
 returns : tie.Need-returns
-returns c = record { is = rw (c .flagged .ensures .is, c .before .pts-extension-flag .ensures); below = omega (arith, c .flagged .ensures .below) }
+returns c =
+    let f = c .flagged .ensures in
+    record { is = rw (f .is, c .before .pts-extension-flag .ensures); below = omega (arith, f .below) }
 
 pub rate-place-spec : {M : Type 1} → statement M
 rate-place-spec =

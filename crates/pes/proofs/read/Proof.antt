@@ -1,9 +1,8 @@
 -- The number decides: 0 is no refusal.
 use Rattle.wire.proofs.Choice.{yes-pick, not-pick, was}
-use Rattle.pes_rules.specs.Packet.{readOf}
 use borrow.Author.Tests.{eq-eqb, ne-eqb}
 use mathlib.Core.Path.{_∙_, ap}
-use Rattle.pes_rules.specs.Packet.{refused, fault, taken}
+use Rattle.pes_rules.specs.Packet.{fault, refused, taken, readOf}
 use denote.Ref.{now}
 use borrow.Author.Needs.{needs}
 use Rattle.pes.proofs.read.Statement.{statement}
@@ -20,7 +19,8 @@ unfolding readOf
 returns c =
     let f = c .before .before .fault .ensures in
     let s = now (c .before .before .before .before .args .packet) in
-    not-pick (taken s) (refused (fault s)) (ne-eqb (fault s) 0 (λ z. c .before .if1 .taken (f ∙ z))) (c .refused .ensures ∙ ap refused f)
+    let z = ne-eqb (fault s) 0 (λ z. c .before .if1 .taken (f ∙ z)) in
+    not-pick (taken s) (refused (fault s)) z (c .refused .ensures ∙ ap refused f)
 
 taken-requires : tie.Need-taken-requires
 taken-requires c κs = search needs

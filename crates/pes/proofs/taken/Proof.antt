@@ -19,7 +19,13 @@ data-place-requires : tie.Need-data-place-requires
 data-place-requires c κs = search needs
 
 returns : tie.Need-returns
-returns c = rw (c .data-place .ensures, c .before .output-data-rate .ensures, c .before .before .pts-extension .ensures, c .before .before .before .output-data-rate-flag .ensures, c .before .before .before .before .pts-extension-flag .ensures)
+returns c =
+    let rate = c .before in
+    let extension = rate .before in
+    let rated = extension .before in
+    let extended = rated .before in
+    rw (extended .pts-extension-flag .ensures, rated .output-data-rate-flag .ensures)
+    (rw (extension .pts-extension .ensures, rate .output-data-rate .ensures, c .data-place .ensures))
 
 pub taken-spec : {M : Type 1} → statement M
 taken-spec =
