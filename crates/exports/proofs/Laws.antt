@@ -30,10 +30,10 @@ handed-on (Open next filled key) = λ i. Open next filled (record { last = key .
 -- what is read off an outcome's step is the outcome's
 pub given : {r l : ℕ} {n : Numbers} {b : List ℕ} (o : Outcome) (t : Step)
     → Does o t b → r ≡ numberOf (t .answer) → l ≡ lengthOf (t .answer) → n ≡ numbersOf (t .state) → Given o r l n b
-given o t d answer length state =
+given o t d answer unit state =
     record {
       answer = answer ∙ ap (λ (t : Step). numberOf (t .answer)) (d .step);
-      length = length ∙ ap (λ (t : Step). lengthOf (t .answer)) (d .step);
+      unit = unit ∙ ap (λ (t : Step). lengthOf (t .answer)) (d .step);
       state = state ∙ ap (λ (t : Step). numbersOf (t .state)) (d .step);
       buffer = d .buffer;
     }

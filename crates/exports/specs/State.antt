@@ -42,9 +42,9 @@ numbersOf (Open next filled key) = numbers 1 next (key .last) filled (pick (key 
 abbrev pub HandedOn : Type 0
 HandedOn = (σ : State) → stateOf (numbersOf σ) ≡ σ
 
--- what a caller is given is the outcome: the answer's number, its length, the numbers of the state, and the buffer
+-- what a caller is given is the outcome: the answer's number, the unit length, the numbers of the state, and the buffer
 pub record Given (o : Outcome) (r l : ℕ) (n : Numbers) (b : List ℕ) : Type 0 where
   pub answer : r ≡ numberOf (o .step .answer)
-  pub length : l ≡ lengthOf (o .step .answer)
+  pub unit : l ≡ lengthOf (o .step .answer)
   pub state : n ≡ numbersOf (o .step .state)
   pub buffer : b ≡ o .buffer

@@ -30,7 +30,8 @@ pub fn put(
     filled: &mut usize,
     flag: &mut u8,
 )
-    ensures { λ _. ⌜ numbers (now (run .exit)) (now (next .exit)) (now (last .exit)) (now (filled .exit)) (now (flag .exit)) ≡ numbersOf state ⌝ }
+    ensures { λ _. ⌜ numbers (now (run .exit)) (now (next .exit)) (now (last .exit)) (now (filled .exit)) (now (flag .exit))
+        ≡ numbersOf state ⌝ }
 {
     let State::Open {
         next: e,

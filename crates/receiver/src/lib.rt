@@ -40,7 +40,7 @@ pub fn length_of(answer: Answer) -> usize
     ensures { λ r. ⌜ r ≡ lengthOf answer ⌝ }
 {
     match answer {
-        Answer::Delivered(length) => length,
+        Answer::Delivered(filled) => filled,
         Answer::Stored => 0,
         Answer::PassedBy => 0,
         Answer::Refused(_) => 0,

@@ -1,5 +1,4 @@
 -- An idle state has no place; an open one has it where the section continues the run.
-use denote.Ref.{now}
 use Rattle.wire.specs.Choice.{pick}
 use Rattle.wire.proofs.Choice.{was}
 use Rattle.rules.specs.Step.{onward, lay}
