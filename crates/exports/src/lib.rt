@@ -1,7 +1,15 @@
 // What the Rust box links: functions on numbers and byte slices only. A slice passes as a pointer and then a length.
+mod state;
+
+use rules::Address;
+use rules::Settings;
+use state::put;
+use state::state_of;
 ghost use mathlib.Core.Path.{_≡_};
 ghost use Rattle.rules.specs.Check.{check};
 ghost use Rattle.rules.specs.Crc.{crc32};
+ghost use Rattle.rules.specs.Step.{stepOf, gapOf};
+ghost use Rattle.exports.specs.State.{address, settings, numbers, stateOf, numbersOf, Given};
 
 // CRC_32 of the bytes.
 #[no_mangle]
@@ -17,4 +25,78 @@ pub extern "C" fn fossknut_check(s: &[u8]) -> u8
     ensures { λ r. ⌜ r ≡ check (now (s .entry)) ⌝ }
 {
     section::check(s)
+}
+
+// One step of the receiver, its own address in printed order. Answers the paper's number; `length` gets the unit length.
+// The state travels as numbers: `run` 0 is idle, any other value an open run; a flag other than 0 is 1.
+#[no_mangle]
+pub extern "C" fn fossknut_receive(
+    mac1: u8,
+    mac2: u8,
+    mac3: u8,
+    mac4: u8,
+    mac5: u8,
+    mac6: u8,
+    range: usize,
+    limit: usize,
+    run: &mut u8,
+    next: &mut usize,
+    last: &mut usize,
+    filled: &mut usize,
+    flag: &mut u8,
+    s: &[u8],
+    buffer: &mut [u8],
+    length: &mut usize,
+) -> u8
+    ensures { λ r. ⌜ Given
+        (stepOf
+        (settings (address mac1 mac2 mac3 mac4 mac5 mac6) range limit)
+        (stateOf (numbers (now (run .entry)) (now (next .entry)) (now (last .entry)) (now (filled .entry)) (now (flag .entry))))
+        (now (s .entry))
+        (now (buffer .entry)))
+        r
+        (now (length .exit))
+        (numbers (now (run .exit)) (now (next .exit)) (now (last .exit)) (now (filled .exit)) (now (flag .exit)))
+        (now (buffer .exit)) ⌝ }
+{
+    let settings = Settings {
+        address: Address {
+            mac1: mac1,
+            mac2: mac2,
+            mac3: mac3,
+            mac4: mac4,
+            mac5: mac5,
+            mac6: mac6,
+        },
+        range: range,
+        limit: limit,
+    };
+    let step = receiver::receive(
+        settings,
+        state_of(*run, *next, *last, *filled, *flag),
+        s,
+        buffer,
+    );
+    let answer = step.answer;
+    let state = step.state;
+    put(state, run, next, last, filled, flag);
+    *length = receiver::length_of(answer);
+    receiver::number_of(answer)
+}
+
+// A gap notice: the numbers become those of the idle state.
+#[no_mangle]
+pub extern "C" fn fossknut_gap(
+    run: &mut u8,
+    next: &mut usize,
+    last: &mut usize,
+    filled: &mut usize,
+    flag: &mut u8,
+)
+    ensures { λ _. ⌜ numbers (now (run .exit)) (now (next .exit)) (now (last .exit)) (now (filled .exit)) (now (flag .exit))
+        ≡ numbersOf (gapOf
+        (stateOf (numbers (now (run .entry)) (now (next .entry)) (now (last .entry)) (now (filled .entry)) (now (flag .entry))))) ⌝ }
+{
+    let state = receiver::gap(state_of(*run, *next, *last, *filled, *flag));
+    put(state, run, next, last, filled, flag);
 }

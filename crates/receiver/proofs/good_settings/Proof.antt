@@ -1,4 +1,5 @@
 -- The code computes the definition.
+use mathlib.Core.Path.{_∙_}
 use Rattle.rules.specs.Step.{goodSettings}
 use borrow.Author.Needs.{needs}
 use Rattle.receiver.proofs.good_settings.Statement.{statement}
@@ -15,7 +16,7 @@ both-requires-3 c κs = search needs
 
 returns : tie.Need-returns
 unfolding goodSettings
-returns c = cc
+returns c = c .both3 .ensures ∙ rw (c .before .both2 .ensures, c .before .before .both .ensures)
 
 pub good-settings-spec : {M : Type 1} → statement M
 good-settings-spec = tie.close (tie.spec both-requires both-requires-2 both-requires-3 returns)

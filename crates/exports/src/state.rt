@@ -1,0 +1,54 @@
+// The receiver's state as numbers.
+use rules::Key;
+use rules::State;
+ghost use mathlib.Core.Path.{_≡_};
+ghost use Rattle.exports.specs.State.{numbers, stateOf, numbersOf};
+
+// The state that the numbers mean.
+pub fn state_of(run: u8, next: usize, last: usize, filled: usize, flag: u8) -> State
+    ensures { λ r. ⌜ r ≡ stateOf (numbers run next last filled flag) ⌝ }
+{
+    if run == 0 {
+        return State::Idle;
+    }
+    State::Open {
+        next: next,
+        filled: filled,
+        key: Key {
+            last: last,
+            flag: flag != 0,
+        },
+    }
+}
+
+// Writes the numbers of a state.
+pub fn put(
+    state: State,
+    run: &mut u8,
+    next: &mut usize,
+    last: &mut usize,
+    filled: &mut usize,
+    flag: &mut u8,
+)
+    ensures { λ _. ⌜ numbers (now (run .exit)) (now (next .exit)) (now (last .exit)) (now (filled .exit)) (now (flag .exit))
+        ≡ numbersOf state ⌝ }
+{
+    let State::Open {
+        next: e,
+        filled: f,
+        key,
+    } = state
+    else {
+        *run = 0;
+        *next = 0;
+        *last = 0;
+        *filled = 0;
+        *flag = 0;
+        return;
+    };
+    *run = 1;
+    *next = e;
+    *last = key.last;
+    *filled = f;
+    *flag = key.flag as u8;
+}
