@@ -1,0 +1,169 @@
+-- The tests behind an answer say whether the row ends in a run with the section, and whether that run is whole.
+use Prim.Native.Nat.{ℕ, _+_, _≤_, _<_}
+use native.Mathlib.Omega.{arith}
+use mathlib.Core.Path.{_≡_, refl, ap, sym, _∙_}
+use mathlib.Core.Logic.{_↔_}
+use mathlib.Core.Bool.{Bool, true, false, not}
+use mathlib.Core.List.{List, [], _∷_, _++_}
+use lib.ListN.{length}
+use borrow.Author.Tests.{eqb-true, eqb-false, leb-true, leb-false, not-true}
+use Rattle.wire.specs.Choice.{pick, both, line, first, firstOf}
+use Rattle.wire.proofs.Choice.{never}
+use Rattle.rules.specs.declared.Settings.{Settings}
+use Rattle.rules.specs.declared.Key.{Key}
+use Rattle.rules.specs.declared.State.{State}
+use Rattle.rules.specs.declared.State.the-variants.{Open}
+use Rattle.rules.specs.declared.Answer.the-variants.{Stored, PassedBy}
+use Rattle.rules.specs.Section.{sectionNumber, payload}
+use Rattle.rules.specs.Check.{check}
+use Rattle.rules.specs.Step.{bar, finish, goodSettings, goodState, keep, keyOf, lay, Place, Nowhere, From, place, room}
+use Rattle.rules.specs.Step.{Outcome, ours, outcome, refuse, refuseFirst, stepOf}
+use Rattle.rules.specs.Row.{Event, section, Held, nothing, datagram, handedBy, elsewhere, joined}
+use Rattle.rules.specs.Row.{Receivable, WholeRun, Ready}
+use Rattle.rules.proofs.Sound.{both-true}
+use Rattle.rules.proofs.Runs.{EndsIn, Next, next, only}
+use Rattle.rules.proofs.Track.{key-last, in-order, room-bounds, room-same, laid-length, nowhere}
+use Rattle.rules.proofs.Track.{Gathered, Track, within, good-state, follows, placed, grown}
+use Rattle.rules.proofs.Finish.{handed, held, Carries, finish-held, finish-hands}
+
+pub no-datagram : {n : ℕ} {d : List ℕ} → nothing ≡ datagram n d → ⊥
+no-datagram p = let z : _≡_ {A = ℕ} 0 1 = cc in omega arith
+
+pick-case : (P : Outcome → Type 0) (t : Bool) (o u : Outcome) → (t ≡ true → P o) → (t ≡ false → P u) → P (pick t o u)
+unfolding pick
+pick-case P true o u f g = f refl
+pick-case P false o u f g = g refl
+
+-- ---- the step
+-- neither 10 nor 11 applies
+settled : (c : Settings) (σ : State) → goodSettings c ≡ true → goodState σ ≡ true
+    → firstOf (line 10 (not (goodSettings c)) ∷ line 11 (not (goodState σ)) ∷ []) ≡ 0
+unfolding firstOf first
+settled c σ p q = rw (p, q)
+
+struck-is : (c : Settings) (s : List ℕ) → check s ≡ 0 → ours c s ≡ false → elsewhere c (section s) ≡ true
+unfolding elsewhere both
+struck-is c s p q = rw (p, q)
+
+-- a struck section is passed by
+pub passes : (c : Settings) (σ : State) (s b : List ℕ) → goodSettings c ≡ true → goodState σ ≡ true
+    → elsewhere c (section s) ≡ true → stepOf c σ s b ≡ outcome PassedBy σ b
+unfolding check elsewhere stepOf refuseFirst pick
+passes c σ s b good fine struck =
+    let parts = both-true _ _ struck in
+    rw (settled c σ good fine, parts .0, not-true (ours c s) (parts .1))
+
+module _ (c : Settings) (b : List ℕ) where
+  -- what is held after the struck row
+  pub record Holds (row : List Event) (h : Held) : Type 0 where
+    pub size : length (h .buffer) ≡ length b
+    pub track : Track c b row (h .state) (h .buffer)
+
+  -- ---- the outcome that is due at the section s behind the row past, by what the row then ends in
+  pub data Due (past : List Event) (now s : List ℕ) : Outcome → Type 0 where
+    -- no run
+    refused : {n : ℕ} → ((κ : Key) (xs : List (List ℕ)) → EndsIn c b (past ++ (section s ∷ [])) κ xs → 0 < length xs → ⊥)
+        → Due past now s (refuse n now)
+    -- a whole run
+    finished : {f : ℕ} {after : List ℕ} → length after ≡ length b
+        → Gathered c b (past ++ (section s ∷ [])) after (sectionNumber s + 1) f (keyOf s)
+        → sectionNumber s ≡ keyOf s .last → Due past now s (finish f after)
+    -- an open run
+    stored : {f : ℕ} {after : List ℕ} → length after ≡ length b
+        → Gathered c b (past ++ (section s ∷ [])) after (sectionNumber s + 1) f (keyOf s)
+        → sectionNumber s < keyOf s .last → Due past now s (outcome Stored (Open (sectionNumber s + 1) f (keyOf s)) after)
+
+  pub due-holds : {past : List Event} {now s : List ℕ} {o : Outcome} → length now ≡ length b → Due past now s o
+      → Holds (past ++ (section s ∷ [])) (held o)
+  due-holds size (refused never-ends) = record { size = size; track = λ κ xs e some partial. never-ends κ xs e some }
+  due-holds size (finished {f = f} {after = after} size′ g whole) =
+      rw (finish-held f after)
+      (record {
+        size = size′;
+        track = λ κ xs e some partial.
+            let same = only c b e (g .run) some (omega (arith, g .count)) in
+            omega (arith, ap length (same .sections), ap (λ (μ : Key). μ .last) (same .key), g .count);
+      })
+  due-holds size (stored size′ g part) =
+      record { size = size′; track = record { gathered = g; some = omega arith; partial = omega arith } }
+
+  ready-run : {row : List Event} {n : ℕ} {d : List ℕ} (w : Ready c b row n d) → EndsIn c b row (w .run .key) (w .sections)
+  ready-run w = record { run = w .run .run; there = w .there }
+
+  pub due-hands : {past : List Event} {now s : List ℕ} {o : Outcome} → Due past now s o → (n : ℕ) (d : List ℕ)
+      → (handed o ≡ datagram n d) ↔ Ready c b (past ++ (section s ∷ [])) n d
+  unfolding handedBy
+  due-hands (refused never-ends) n d = (
+    λ p. absurd (no-datagram p),
+    λ w. absurd (never-ends (w .run .key) (w .sections) (ready-run w) (omega (arith, w .run .whole))),
+  )
+  due-hands {past} {now} {s} (finished {f = f} {after = after} size g last) n d =
+      let fits : f ≤ length after = omega (arith, g .filled, g .run .run .fits, room-bounds b .1) in
+      let hands = finish-hands f after (joined (g .sections)) fits (g .bytes) n d in
+      let limit : keyOf s .last + 1 ≤ c .limit = within c b (g .run) (omega (arith, g .count)) in
+      let whole : WholeRun c b (g .sections) =
+      record { key = keyOf s; run = g .run .run; whole = omega (arith, g .count); within = omega (arith, g .count) } in (
+        λ p.
+            let q : Carries (joined (g .sections)) n d = hands .0 p in
+            record { sections = g .sections; run = whole; there = g .run .there; bytes = q .bytes; size = q .size },
+        λ w.
+            let same = only c b (ready-run w) (g .run) (omega (arith, w .run .whole)) (omega (arith, g .count)) in
+            hands .1 (record { bytes = rw (same .sections) at (w .bytes); size = w .size }),
+      )
+  due-hands (stored size g part) n d = (
+    λ p. absurd (no-datagram p),
+    λ w.
+        let same = only c b (ready-run w) (g .run) (omega (arith, w .run .whole)) (omega (arith, g .count)) in
+        absurd (omega (arith, w .run .whole, ap length (same .sections), ap (λ (κ : Key). κ .last) (same .key), g .count)),
+  )
+
+  -- ---- the step's outcome is due
+  module _ (past : List Event) (h : Held) (i : Holds past h) (s : List ℕ) where
+    abbrev Here : Outcome → Type 0
+    Here o = Due past (h .buffer) s o
+
+    -- where s is no next section of a run that the row ends in, it is refused
+    refusing : {n : ℕ} → ((κ : Key) → Next c b past s κ → ⊥) → Here (refuse n (h .buffer))
+    refusing no-next = refused (λ κ xs e some. no-next κ (next c b e some))
+
+    -- the place that a run asks for is the place that there is
+    place-is : (p : Place) → place (h .state) s ≡ p → {κ : Key} (l : Next c b past s κ) → p ≡ From (length (joined (l .init)))
+    place-is p q l = sym q ∙ placed c b past (h .state) (h .buffer) s (l .init) (i .track) (l .before) (l .piece)
+
+    keeps : Receivable c s → (f : ℕ) → place (h .state) s ≡ From f → f + length (payload s) ≤ room (h .buffer)
+        → Here (keep f s (h .buffer))
+    unfolding keep
+    keeps k f q fits =
+        let rooms : room (h .buffer) ≡ room b = room-same (h .buffer) b (i .size) in
+        let before = follows c b past (h .state) (h .buffer) s f (i .track) q in
+        let g = grown c b past (h .buffer) s f k before (omega arith) (i .size) in
+        let size = laid-length f s (h .buffer) (omega (arith, room-bounds (h .buffer) .1)) ∙ i .size in
+        pick-case Here _ _ _ (λ t. finished size g (eqb-true _ _ t ∙ sym (key-last s)))
+        (λ t.
+        let other : sectionNumber s ≡ keyOf s .last → ⊥ = λ e. eqb-false _ _ t (e ∙ key-last s) in
+        stored size g (omega (arith, in-order s (k .sound))))
+
+    lays : Receivable c s → (p : Place) → place (h .state) s ≡ p → Here (lay p s (h .buffer))
+    unfolding lay
+    lays k Nowhere q = refusing (λ κ l. nowhere (place-is Nowhere q l))
+    lays k (From f) q =
+        pick-case Here _ _ _ (λ t. keeps k f q (leb-true _ _ t))
+        (λ t. refusing (λ κ l.
+        let over : room (h .buffer) < f + length (payload s) = leb-false _ _ t in
+        let is : From f ≡ From (length (joined (l .init))) = place-is (From f) q l in
+        let f-is : f ≡ length (joined (l .init)) = cc in
+        omega (arith, room-same (h .buffer) b (i .size), l .fits)))
+
+    pub due : goodSettings c ≡ true → elsewhere c (section s) ≡ false → Here (stepOf c (h .state) s (h .buffer))
+    unfolding check bar stepOf refuseFirst
+    due good kept =
+        let fine : goodState (h .state) ≡ true = good-state c b past (h .state) (h .buffer) good (i .track) in
+        pick-case Here _ _ _ (λ t.
+        pick-case Here _ _ _ (λ sound.
+        pick-case Here _ _ _ (λ address.
+        pick-case Here _ _ _ (λ free.
+        lays (record { sound = eqb-true _ _ sound; address = address; free = eqb-true _ _ free }) (place (h .state) s) refl)
+        (λ barred. refusing (λ κ l. eqb-false _ _ barred (l .piece .receivable .free))))
+        (λ foreign. absurd (never (sym kept ∙ struck-is c s (eqb-true _ _ sound) foreign))))
+        (λ faulty. refusing (λ κ l. eqb-false _ _ faulty (l .piece .receivable .sound))))
+        (λ bad. absurd (eqb-false _ _ bad (settled c (h .state) good fine)))

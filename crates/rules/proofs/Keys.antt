@@ -1,0 +1,30 @@
+-- The test of two keys holds exactly where the keys are equal, since it compares every field.
+use mathlib.Core.Path.{_≡_, refl}
+use mathlib.Core.Bool.{Bool, true, false, Bool·beq}
+use borrow.Author.Tests.{eqb-true, eq-eqb}
+use Rattle.wire.specs.Choice.{both}
+use Rattle.rules.specs.declared.Key.{Key}
+use Rattle.rules.specs.Step.{sameKey}
+use Rattle.rules.proofs.Sound.{both-true}
+
+flag-true : (t u : Bool) → Bool·beq t u ≡ true → t ≡ u
+flag-true true true p = refl
+flag-true true false p = cc
+flag-true false true p = cc
+flag-true false false p = refl
+
+flag-refl : (t : Bool) → Bool·beq t t ≡ true
+flag-refl true = refl
+flag-refl false = refl
+
+pub same-key : (a d : Key) → sameKey a d ≡ true → a ≡ d
+unfolding sameKey
+same-key a d p =
+    let parts = both-true _ _ p in
+    let last : a .last ≡ d .last = eqb-true (a .last) (d .last) (parts .0) in
+    let flag : a .flag ≡ d .flag = flag-true (a .flag) (d .flag) (parts .1) in
+    λ i. record { last = last i; flag = flag i }
+
+pub key-same : (a d : Key) → a ≡ d → sameKey a d ≡ true
+unfolding sameKey both
+key-same a d p = rw (p, eq-eqb (d .last) (d .last) refl, flag-refl (d .flag))
