@@ -9,3 +9,6 @@ pub mod Track
 pub mod Finish
 pub mod Due
 pub mod Row
+pub mod Cut
+pub mod Send
+pub mod Demand2
