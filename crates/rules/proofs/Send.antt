@@ -1,6 +1,6 @@
 -- Pieces of n bytes are cut off the front until nothing is left, so the first k of them are the unit's first k * n bytes.
 use Prim.Native.Nat.{ℕ, zero, suc, _+_, _*_, _-_, _/_, _≤_, _<_, max}
-use native.Mathlib.Nat.{add-mul, div-mul-le-self, le-max-right, lt-div-mul-add, mul-le-mul-right, suc-mul, zero-mul}
+use native.Mathlib.Nat.{add-mul, div-mul-le-self, le-max-right, lt-div-mul-add, mul-le-mul-left, mul-le-mul-right, suc-mul, zero-mul}
 use native.Mathlib.Decide.{decLt}
 use native.Mathlib.Numerals.{add-one}
 use native.Mathlib.Omega.{arith}
@@ -53,6 +53,13 @@ accepted c flag n u out p =
       room = ltb-false _ _ (t53 .0);
     }
 
+-- so the numbers of its sections are bytes
+pub count-byte : {c : Settings} {flag : Bool} {n : ℕ} {u out : List ℕ} → Accepted c flag n u out → sectionCount n u ≤ 255
+unfolding goodSettings
+count-byte {c} a =
+    let most : c .limit ≤ 255 = leb-true _ _ (both-true _ _ (both-true _ _ (a .settings) .1) .1) in
+    omega (arith, a .limit)
+
 -- ---- what a sender that refuses nothing gives
 pub record Given (c : Settings) (flag : Bool) (n : ℕ) (u out : List ℕ) (m : ℕ) : Type 0 where
   pub accepted : Accepted c flag n u out
@@ -101,6 +108,14 @@ module _ (n : ℕ) (u : List ℕ) (some : 0 < n) where
       let next : suc (suc k) ≤ q = omega arith in
       let more : suc (suc k) * n ≤ q * n = mul-le-mul-right n next in
       let step : suc (suc k) * n ≡ suc k * n + n = suc-mul (suc k) n in
+      omega arith
+
+  -- no more than one for each byte, and one
+  pub count-most : sectionCount n u ≤ length u + 1
+  count-most =
+      let k : ℕ = sectionCount n u - 1 in
+      let needed : k * n ≤ length u = count-needed k (omega (arith, count-some n u)) in
+      let more : k * 1 ≤ k * n = mul-le-mul-left k some in
       omega arith
 
 -- ---- the pieces
