@@ -4,27 +4,24 @@ use native.Mathlib.Omega.{arith}
 use native.Mathlib.Numerals.{add-one}
 use mathlib.Core.Path.{_≡_, refl, ap, ap₂, sym, _∙_}
 use mathlib.Core.Bool.{Bool, true, false}
-use mathlib.Core.List.{List, [], _∷_, _++_, flatten, map}
-use lib.ListN.{length, getD, take, length-take}
+use mathlib.Core.List.{List, [], _∷_, _++_, map}
+use lib.ListN.{length, take, length-take}
 use lib.Dec.{eqb, ltb}
 use borrow.Author.Tests.{eq-eqb, le-ltb}
 use Rattle.wire.specs.Bytes.{numberAt, over}
-use Rattle.wire.specs.Choice.{pick, both, either, first, firstOf}
-use Rattle.wire.proofs.Choice.{never, not-first}
+use Rattle.wire.specs.Choice.{both, either, first, firstOf}
+use Rattle.wire.proofs.Choice.{never}
 use Rattle.rules.specs.declared.Settings.{Settings}
 use Rattle.rules.specs.declared.Key.{Key}
 use Rattle.rules.specs.declared.Address.{Address}
 use Rattle.rules.specs.declared.Answer.the-variants.{Delivered, Stored}
-use Rattle.rules.specs.declared.Sending.the-variants.{Sent, Unsent}
 use Rattle.rules.specs.Address.{agree, sameAddress}
-use Rattle.rules.specs.Check.{check}
 use Rattle.rules.specs.Cut.{offers}
-use Rattle.rules.specs.Demand2.{answerAt, Arrives, Demand2, RoundTrip}
-use Rattle.rules.specs.Row.{after, elsewhere, Event, fresh, Held, joined, next, Piece, Receivable, Run, section}
-use Rattle.rules.specs.Section.{header, sealed, sectionLength, sectionNumber, sectionOf}
-use Rattle.rules.specs.Send.{piece, sectionAt, sectionCount, sections, sectionsTo, sendLines, sentOf, written}
-use Rattle.rules.specs.Step.{bar, barLines, finish, goodSettings, keyOf, Outcome, ours, overLimit, payloadScrambled, room, stepOf}
-use Rattle.rules.specs.Written.{Written}
+use Rattle.rules.specs.Demand2.{answerAt, Arrives, RoundTrip}
+use Rattle.rules.specs.Row.{after, elsewhere, Event, fresh, Held, joined, next, Piece, Receivable, section}
+use Rattle.rules.specs.Section.{header, sealed, sectionLength, sectionOf}
+use Rattle.rules.specs.Send.{piece, sectionAt, sectionCount, sections, sectionsTo, sentOf, written}
+use Rattle.rules.specs.Step.{bar, barLines, finish, keyOf, Outcome, ours, overLimit, payloadScrambled, room, stepOf}
 use Rattle.rules.proofs.Cut.{Framed, offers-sections}
 use Rattle.rules.proofs.Due.{Due, refused, finished, stored, due, due-holds, Holds}
 use Rattle.rules.proofs.Lists.{map-more}

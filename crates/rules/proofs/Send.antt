@@ -1,16 +1,15 @@
 -- Pieces of n bytes are cut off the front until nothing is left, so the first k of them are the unit's first k * n bytes.
 use Prim.Native.Nat.{ℕ, zero, suc, _+_, _*_, _-_, _/_, _≤_, _<_, max}
-use native.Mathlib.Nat.{add-mul, div-mul-le-self, le-max-right, lt-div-mul-add, mul-le-mul-left, mul-le-mul-right, suc-mul, zero-mul}
+use native.Mathlib.Nat.{div-mul-le-self, le-max-right, lt-div-mul-add, mul-le-mul-left, mul-le-mul-right, suc-mul, zero-mul}
 use native.Mathlib.Decide.{decLt}
-use native.Mathlib.Numerals.{add-one}
 use native.Mathlib.Omega.{arith}
 use mathlib.Core.Path.{_≡_, refl, ap, sym, _∙_}
 use mathlib.Core.Bool.{Bool, true, false}
 use mathlib.Core.List.{List, [], _∷_, _++_, flatten, append-assoc, append-nil}
-use lib.ListN.{length, getD, take, drop, length-append, length-take, length-drop, drop-of-length-le, List·getD-append}
+use lib.ListN.{length, getD, take, drop, length-append, length-take, length-drop, drop-of-length-le}
 use lib.Seq.{drop-drop, getD-at, getD-take, take-add, take-all, take-append-le, take-at}
 use lib.Dec.{eqb}
-use borrow.Author.Tests.{eqb-true, leb-true, ltb-false, not-false}
+use borrow.Author.Tests.{eq-eqb, eqb-true, ne-eqb, leb-true, ltb-false, not-false}
 use Rattle.wire.specs.Bytes.{over}
 use Rattle.wire.specs.Choice.{pick, firstOf}
 use Rattle.rules.specs.declared.Address.{Address}
@@ -59,6 +58,17 @@ unfolding goodSettings
 count-byte {c} a =
     let most : c .limit ≤ 255 = leb-true _ _ (both-true _ _ (both-true _ _ (a .settings) .1) .1) in
     omega (arith, a .limit)
+
+-- ---- the outcome
+pub unsent-is : (c : Settings) (flag : Bool) (n : ℕ) (u out : List ℕ) → (firstOf (sendLines c flag n u out) ≡ 0 → ⊥)
+    → sentOf c flag n u out ≡ record { sending = Unsent (firstOf (sendLines c flag n u out)); output = out }
+unfolding sentOf pick
+unsent-is c flag n u out h = rw (ne-eqb _ 0 h)
+
+pub sent-is : (c : Settings) (flag : Bool) (n : ℕ) (u out : List ℕ) → firstOf (sendLines c flag n u out) ≡ 0
+    → sentOf c flag n u out ≡ written c flag n u out
+unfolding sentOf pick
+sent-is c flag n u out h = rw (eq-eqb _ 0 h)
 
 -- ---- what a sender that refuses nothing gives
 pub record Given (c : Settings) (flag : Bool) (n : ℕ) (u out : List ℕ) (m : ℕ) : Type 0 where

@@ -1,11 +1,11 @@
 -- What is put where the last put ended stands behind it, so puts in a row are one put of all their bytes.
 use Prim.Native.Nat.{ℕ, _+_, _-_, _≤_}
-use native.Mathlib.Nat.{le-refl, add-assoc}
+use native.Mathlib.Nat.{le-refl}
 use native.Mathlib.Omega.{arith}
-use mathlib.Core.Path.{_≡_, refl, ap, sym, _∙_}
+use mathlib.Core.Path.{_≡_, refl, ap, _∙_}
 use mathlib.Core.List.{List, [], _++_, append-assoc, append-nil}
 use lib.ListN.{length, take, drop, length-append, length-drop, drop-of-length-le}
-use lib.Seq.{drop-append-le, drop-at, drop-drop, drop-paste, length-take-le, paste, take-all, take-append-le, take-at, take-length, take-paste}
+use lib.Seq.{drop-at, drop-drop, drop-paste, length-take-le, paste, take-all, take-at, take-length, take-paste}
 use Rattle.wire.specs.Bytes.{bytesOf, over}
 use Rattle.wire.proofs.Bytes.{length-bytesOf}
 use Rattle.rules.specs.Crc.{crc32}

@@ -6,8 +6,8 @@ use native.Mathlib.Numerals.{add-one}
 use native.Mathlib.Omega.{arith}
 use mathlib.Core.Path.{_≡_, refl, ap, sym, _∙_}
 use mathlib.Core.Bool.{Bool}
-use mathlib.Core.List.{List, [], _++_, flatten}
-use lib.ListN.{length, take, drop, length-take, length-drop, length-append, drop-of-length-le}
+use mathlib.Core.List.{List, [], flatten}
+use lib.ListN.{length, take, drop, length-take, length-drop, drop-of-length-le}
 use lib.Seq.{drop-drop, drop-length, length-paste, paste-zero, take-all, take-length}
 use Rattle.rules.specs.declared.Settings.{Settings}
 use Rattle.rules.specs.Section.{sectionOf}

@@ -1,73 +1,53 @@
+-- Three puts in a row, and the CRC_32 of what the first two wrote.
 use native.Mathlib.Omega.{arith}
 use Rattle.rules.specs.Section.{sectionOf}
 use Rattle.sender.proofs.Puts.{puts-sealed}
 use borrow.Author.Needs.{needs}
 use Rattle.sender.proofs.put_section.Statement.{statement}
 use Rattle.sender.proofs.put_section.Tie as tie
-use Rattle.sender.proofs.put_section.Reads as reads
-use Rattle.sender.proofs.put_section.Lts as lts
-use Rattle.crc.proofs.crc_32.Reads as crc-32-reads
-use Rattle.section.proofs.header.header.Reads as header-reads
-use Rattle.sender.proofs.put.Reads as put-reads
-use Rattle.wire.proofs.u32_bytes.Reads as u32-bytes-reads
 
--- src/lib.rt:107:66
 add-header : tie.Need-add-header
 add-header c = search needs
 
--- src/lib.rt:107:65
 cast-header : tie.Need-cast-header
 cast-header c = search needs
 
--- src/lib.rt:107:18
 header-requires : tie.Need-header-requires
 header-requires c κs = search needs
 
--- src/lib.rt:108:20
 slice-aggregate-put : tie.Need-slice-aggregate-put
 slice-aggregate-put c = search needs
 
--- src/lib.rt:108:9
 put-requires : tie.Need-put-requires
 put-requires c κs = search needs
 
--- src/lib.rt:109:9
 put-requires-2 : tie.Need-put-requires-2
 put-requires-2 c κs = search needs
 
--- src/lib.rt:110:43
 sub-crc-32 : tie.Need-sub-crc-32
 sub-crc-32 c = search needs
 
--- src/lib.rt:110:43
 part-crc-32-start : tie.Need-part-crc-32-start
 part-crc-32-start c = search needs
 
--- src/lib.rt:110:43
 part-crc-32-end : tie.Need-part-crc-32-end
 part-crc-32-end c = search needs
 
--- src/lib.rt:110:31
 crc-32-requires : tie.Need-crc-32-requires
 crc-32-requires c κs = search needs
 
--- src/lib.rt:110:15
 u32-bytes-requires : tie.Need-u32-bytes-requires
 u32-bytes-requires c κs = search needs
 
--- src/lib.rt:111:9
 slice-aggregate-put-2 : tie.Need-slice-aggregate-put-2
 slice-aggregate-put-2 c = search needs
 
--- src/lib.rt:111:5
 put-requires-3 : tie.Need-put-requires-3
 put-requires-3 c κs = search needs
 
--- src/lib.rt:95:1
 same-length : tie.Need-same-length
 same-length c = search needs
 
--- src/lib.rt:95:1
 returns : tie.Need-returns
 unfolding sectionOf
 returns c =

@@ -1,3 +1,4 @@
+-- Each turn puts the next section behind the others, and cuts its piece off what is left.
 use Prim.Native.Nat.{_-_}
 use native.Mathlib.Omega.{arith}
 use mathlib.Core.Path.{sym}
@@ -8,11 +9,6 @@ use Rattle.rules.proofs.Send.{accepted, count-byte, count-some}
 use Rattle.sender.proofs.Stage.{Stage, stage-room, stage-next, stage-start, stage-end}
 use Rattle.sender.proofs.put_sections.Statement.{statement}
 use Rattle.sender.proofs.put_sections.Tie as tie
-use Rattle.sender.proofs.put_sections.Reads as reads
-use Rattle.sender.proofs.put_sections.Lts as lts
-use Rattle.sender.proofs.put_section.Reads as put-section-reads
-use Rattle.sender.proofs.section_count.Reads as section-count-reads
-use Rattle.wire.proofs.smaller.Reads as smaller-reads
 
 abbrev Inv-loop : tie.InvT-loop
 Inv-loop settings flag size unit out₀ count last rest₀ at₀ i₀ out rest at i =

@@ -1,3 +1,4 @@
+-- Each return is the first line that applies; the total of 53 is the length of the sections.
 use mathlib.Core.Path.{ap}
 use denote.Ref.{now}
 use borrow.Author.Tests.{leb-true, lt-ltb, le-ltb, not-false}
@@ -10,18 +11,10 @@ use Rattle.rules.specs.Send.{sendLines}
 use borrow.Author.Needs.{needs}
 use Rattle.sender.proofs.refusal.Statement.{statement}
 use Rattle.sender.proofs.refusal.Tie as tie
-use Rattle.sender.proofs.refusal.Reads as reads
-use Rattle.sender.proofs.refusal.Lts as lts
-use Rattle.sender.proofs.section_count.Reads as section-count-reads
-use Rattle.sender.proofs.settings_good.Reads as settings-good-reads
-use Rattle.sender.proofs.size_good.Reads as size-good-reads
-use Rattle.wire.proofs.first.Reads as first-reads
 
--- src/lib.rt:69:9
 settings-good-requires : tie.Need-settings-good-requires
 settings-good-requires c κs = search needs
 
--- src/lib.rt:70:9
 returns : tie.Need-returns
 unfolding sendLines firstOf
 returns c flag = yes-first 10 _ (was (ap not (c .before .settings-good .ensures)) (c .if1 .taken))

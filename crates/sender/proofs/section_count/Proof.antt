@@ -1,3 +1,4 @@
+-- The quotient is the count where it is above 1, and a unit of few bytes has few sections.
 use native.Mathlib.Omega.{arith}
 use denote.Ref.{now}
 use Rattle.rules.specs.Send.{sectionCount}
@@ -5,27 +6,20 @@ use Rattle.rules.proofs.Send.{count-most}
 use borrow.Author.Needs.{needs}
 use Rattle.sender.proofs.section_count.Statement.{statement}
 use Rattle.sender.proofs.section_count.Tie as tie
-use Rattle.sender.proofs.section_count.Reads as reads
-use Rattle.sender.proofs.section_count.Lts as lts
 
--- src/lib.rt:58:32
 sub-count : tie.Need-sub-count
 sub-count c = search needs
 
--- src/lib.rt:58:18
 add-count : tie.Need-add-count
 add-count c = search needs
 
--- src/lib.rt:58:17
 div-count : tie.Need-div-count
 div-count c = search needs
 
--- src/lib.rt:60:9
 returns : tie.Need-returns
 unfolding sectionCount
 returns c = record { is = omega arith; below = omega arith }
 
--- src/lib.rt:54:1
 returns-2 : tie.Need-returns-2
 unfolding sectionCount
 returns-2 c =
