@@ -86,6 +86,10 @@ given c flag n u out m p = go (eqb (firstOf (sendLines c flag n u out)) 0) refl 
     go true q p = record { accepted = accepted c flag n u out (eqb-true _ _ q); size = cc; output = rw q }
     go false q p = let z : _≡_ {A = ℕ} 0 1 = cc in absurd (omega arith)
 
+-- the m bytes given are within the output
+pub given-fits : (c : Settings) (flag : Bool) (n : ℕ) (u out : List ℕ) (m : ℕ) → sentOf c flag n u out .sending ≡ Sent m → m ≤ length out
+given-fits c flag n u out m p = let g = given c flag n u out m p in omega (arith, g .size, g .accepted .room)
+
 -- the m bytes given are the sections
 pub given-bytes : (c : Settings) (flag : Bool) (n : ℕ) (u out : List ℕ) (m : ℕ) → Given c flag n u out m
     → take m (sentOf c flag n u out .output) ≡ flatten (sections c flag n u)
