@@ -54,8 +54,10 @@ framed-length : (s r : List ℕ) → Framed s → offerLength (s ++ r) ≡ lengt
 unfolding offerLength sectionLength numberAt pick
 framed-length s r f =
     let size = length-append s r in
-    rw (le-ltb (length (s ++ r)) 3 (omega (arith, f .head)), List·getD-append s r 0 1 (omega (arith, f .head)), List·getD-append s r 0 2 (omega (arith, f .head)))
-    (omega (arith, f .whole))
+    let long : 3 ≤ length (s ++ r) = omega (arith, f .head) in
+    let byte1 = List·getD-append s r 0 1 (omega (arith, f .head)) in
+    let byte2 = List·getD-append s r 0 2 (omega (arith, f .head)) in
+    rw (le-ltb (length (s ++ r)) 3 long, byte1, byte2) (omega (arith, f .whole))
 
 within-sections : (k : ℕ) (xs : List (List ℕ)) → length (flatten xs) ≤ k → ((i : ℕ) → i < length xs → Framed (getD xs i []))
     → offersWithin k (flatten xs) ≡ xs

@@ -26,7 +26,8 @@ use Rattle.rules.proofs.Cut.{Framed, offers-sections}
 use Rattle.rules.proofs.Due.{Due, refused, finished, stored, due, due-holds, Holds}
 use Rattle.rules.proofs.Lists.{map-more}
 use Rattle.rules.proofs.Runs.{EndsIn, ends-size, only}
-use Rattle.rules.proofs.Send.{Accepted, count-some, Given, given, given-bytes, joined-to, piece-small, pieces-all, section-size, section-written, sections-at, sections-length, sections-take}
+use Rattle.rules.proofs.Send.{Accepted, count-some, Given, given, given-bytes, joined-to, piece-small, pieces-all}
+use Rattle.rules.proofs.Send.{section-size, section-written, sections-at, sections-length, sections-take}
 
 -- ---- each section is receivable
 either-right : (t : Bool) → either t true ≡ true
@@ -42,7 +43,14 @@ agree-self k range x = rw (eq-eqb x x refl) (either-right (ltb range k))
 same-self : (range : ℕ) (a : Address) → sameAddress range a a ≡ true
 unfolding sameAddress both
 same-self range a =
-    rw (agree-self 1 range (a .mac6), agree-self 2 range (a .mac5), agree-self 3 range (a .mac4), agree-self 4 range (a .mac3), agree-self 5 range (a .mac2), agree-self 6 range (a .mac1))
+    rw (
+      agree-self 1 range (a .mac6),
+      agree-self 2 range (a .mac5),
+      agree-self 3 range (a .mac4),
+      agree-self 4 range (a .mac3),
+      agree-self 5 range (a .mac2),
+      agree-self 6 range (a .mac1),
+    )
 
 after-more : (c : Settings) (h : Held) (r : List Event) (e : Event) → after c h (r ++ (e ∷ [])) ≡ next c (after c h r) e
 unfolding after
@@ -104,7 +112,9 @@ module _ (c : Settings) (flag : Bool) (n : ℕ) (u out : List ℕ) (a : Accepted
         record {
           run =
               record {
-                each = λ i l. rw (sections-at c flag n u k i (omega (arith, sections-length c flag n u k))) (agreed i (omega (arith, sections-length c flag n u k)));
+                each = λ i l.
+                    let m : i < k = omega (arith, sections-length c flag n u k) in
+                    rw (sections-at c flag n u k i m) (agreed i (omega arith));
                 fits = rw (joined-to c flag n u (a .some) (a .most) k h, length-take) (omega arith);
               };
           there = record { front = []; split = refl };
@@ -115,7 +125,8 @@ module _ (c : Settings) (flag : Bool) (n : ℕ) (u out : List ℕ) (a : Accepted
     kept i h = let r = receivable i h in rw (r .sound, r .address)
 
     -- what is due at section k, by what is held before it
-    due-at : (k : ℕ) → k < count → Holds c b (row k) (held k) → Due c b (row k) (held k .buffer) (at k) (stepOf c (held k .state) (at k) (held k .buffer))
+    due-at : (k : ℕ) → k < count → Holds c b (row k) (held k)
+        → Due c b (row k) (held k .buffer) (at k) (stepOf c (held k .state) (at k) (held k .buffer))
     due-at k h i = due c b (row k) (held k) i (at k) (a .settings) (kept k h)
 
     holds-to : (k : ℕ) → k ≤ count → Holds c b (row k) (held k)

@@ -1,7 +1,7 @@
 -- Pieces of n bytes are cut off the front until nothing is left, so the first k of them are the unit's first k * n bytes.
 use Prim.Native.Nat.{ℕ, zero, suc, _+_, _*_, _-_, _/_, _≤_, _<_, max}
 use native.Mathlib.Nat.{div-mul-le-self, le-max-right, lt-div-mul-add, mul-le-mul-left, mul-le-mul-right, suc-mul, zero-mul}
-use native.Mathlib.Decide.{decLt}
+use native.Mathlib.Decide.{decLt, ℕ-discrete}
 use native.Mathlib.Omega.{arith}
 use mathlib.Core.Path.{_≡_, refl, ap, sym, _∙_}
 use mathlib.Core.Bool.{Bool, true, false}
@@ -9,7 +9,7 @@ use mathlib.Core.List.{List, [], _∷_, _++_, flatten, append-assoc, append-nil}
 use lib.ListN.{length, getD, take, drop, length-append, length-take, length-drop, drop-of-length-le}
 use lib.Seq.{drop-drop, getD-at, getD-take, take-add, take-all, take-append-le, take-at}
 use lib.Dec.{eqb}
-use borrow.Author.Tests.{eq-eqb, eqb-true, ne-eqb, leb-true, ltb-false, not-false}
+use borrow.Author.Tests.{eq-eqb, ne-eqb, leb-true, ltb-false, not-false}
 use Rattle.wire.specs.Bytes.{over}
 use Rattle.wire.specs.Choice.{pick, firstOf}
 use Rattle.rules.specs.declared.Address.{Address}
@@ -17,7 +17,7 @@ use Rattle.rules.specs.declared.Settings.{Settings}
 use Rattle.rules.specs.declared.Sending.the-variants.{Sent, Unsent}
 use Rattle.rules.specs.Section.{header, sectionOf}
 use Rattle.rules.specs.Row.{joined}
-use Rattle.rules.specs.Send.{piece, sectionAt, sectionCount, sections, sectionsTo, sendLines, sentOf, written}
+use Rattle.rules.specs.Send.{piece, sectionAt, sectionCount, sections, sectionsTo, sendLines, SendOutcome, sentOf, written}
 use Rattle.rules.specs.Step.{goodSettings}
 use Rattle.rules.specs.Written.{Written}
 use Rattle.rules.proofs.Lists.{length-more}
@@ -34,24 +34,6 @@ pub record Accepted (c : Settings) (flag : Bool) (n : ℕ) (u out : List ℕ) : 
   pub limit : sectionCount n u ≤ c .limit
   pub room : length (flatten (sections c flag n u)) ≤ length out
 
-pub accepted : (c : Settings) (flag : Bool) (n : ℕ) (u out : List ℕ) → firstOf (sendLines c flag n u out) ≡ 0 → Accepted c flag n u out
-unfolding sendLines
-accepted c flag n u out p =
-    let t10 = none-first _ _ (omega arith) p in
-    let t50 = none-first _ _ (omega arith) (t10 .1) in
-    let t51 = none-first _ _ (omega arith) (t50 .1) in
-    let t52 = none-first _ _ (omega arith) (t51 .1) in
-    let t53 = none-first _ _ (omega arith) (t52 .1) in
-    let size = both-true _ _ (not-false _ (t50 .0)) in
-    record {
-      settings = not-false _ (t10 .0);
-      some = leb-true _ _ (size .0);
-      most = leb-true _ _ (size .1);
-      unit = ltb-false _ _ (t51 .0);
-      limit = ltb-false _ _ (t52 .0);
-      room = ltb-false _ _ (t53 .0);
-    }
-
 -- so the numbers of its sections are bytes
 pub count-byte : {c : Settings} {flag : Bool} {n : ℕ} {u out : List ℕ} → Accepted c flag n u out → sectionCount n u ≤ 255
 unfolding goodSettings
@@ -59,43 +41,60 @@ count-byte {c} a =
     let most : c .limit ≤ 255 = leb-true _ _ (both-true _ _ (both-true _ _ (a .settings) .1) .1) in
     omega (arith, a .limit)
 
--- ---- the outcome
-pub unsent-is : (c : Settings) (flag : Bool) (n : ℕ) (u out : List ℕ) → (firstOf (sendLines c flag n u out) ≡ 0 → ⊥)
-    → sentOf c flag n u out ≡ record { sending = Unsent (firstOf (sendLines c flag n u out)); output = out }
-unfolding sentOf pick
-unsent-is c flag n u out h = rw (ne-eqb _ 0 h)
+module _ (c : Settings) (flag : Bool) (n : ℕ) (u out : List ℕ) where
+  pub accepted : firstOf (sendLines c flag n u out) ≡ 0 → Accepted c flag n u out
+  unfolding sendLines
+  accepted p =
+      let t10 = none-first _ _ (omega arith) p in
+      let t50 = none-first _ _ (omega arith) (t10 .1) in
+      let t51 = none-first _ _ (omega arith) (t50 .1) in
+      let t52 = none-first _ _ (omega arith) (t51 .1) in
+      let t53 = none-first _ _ (omega arith) (t52 .1) in
+      let size = both-true _ _ (not-false _ (t50 .0)) in
+      record {
+        settings = not-false _ (t10 .0);
+        some = leb-true _ _ (size .0);
+        most = leb-true _ _ (size .1);
+        unit = ltb-false _ _ (t51 .0);
+        limit = ltb-false _ _ (t52 .0);
+        room = ltb-false _ _ (t53 .0);
+      }
 
-pub sent-is : (c : Settings) (flag : Bool) (n : ℕ) (u out : List ℕ) → firstOf (sendLines c flag n u out) ≡ 0
-    → sentOf c flag n u out ≡ written c flag n u out
-unfolding sentOf pick
-sent-is c flag n u out h = rw (eq-eqb _ 0 h)
+  -- ---- the outcome
+  pub unsent-is : (firstOf (sendLines c flag n u out) ≡ 0 → ⊥)
+      → sentOf c flag n u out ≡ record { sending = Unsent (firstOf (sendLines c flag n u out)); output = out }
+  unfolding sentOf pick
+  unsent-is h = rw (ne-eqb _ 0 h)
 
--- ---- what a sender that refuses nothing gives
-pub record Given (c : Settings) (flag : Bool) (n : ℕ) (u out : List ℕ) (m : ℕ) : Type 0 where
-  pub accepted : Accepted c flag n u out
-  pub size : m ≡ length (flatten (sections c flag n u))
-  pub output : sentOf c flag n u out .output ≡ over (flatten (sections c flag n u)) out
+  pub sent-is : firstOf (sendLines c flag n u out) ≡ 0 → sentOf c flag n u out ≡ written c flag n u out
+  unfolding sentOf pick
+  sent-is h = rw (eq-eqb _ 0 h)
 
-pub given : (c : Settings) (flag : Bool) (n : ℕ) (u out : List ℕ) (m : ℕ) → sentOf c flag n u out .sending ≡ Sent m → Given c flag n u out m
-unfolding sentOf written pick
-given c flag n u out m p = go (eqb (firstOf (sendLines c flag n u out)) 0) refl p
-  where
-    go : (t : Bool) → eqb (firstOf (sendLines c flag n u out)) 0 ≡ t
-        → pick t (written c flag n u out) (record { sending = Unsent (firstOf (sendLines c flag n u out)); output = out }) .sending ≡ Sent m
-        → Given c flag n u out m
-    go true q p = record { accepted = accepted c flag n u out (eqb-true _ _ q); size = cc; output = rw q }
-    go false q p = let z : _≡_ {A = ℕ} 0 1 = cc in absurd (omega arith)
+  -- ---- what a sender that refuses nothing gives
+  pub record Given (m : ℕ) : Type 0 where
+    pub accepted : Accepted c flag n u out
+    pub size : m ≡ length (flatten (sections c flag n u))
+    pub output : sentOf c flag n u out .output ≡ over (flatten (sections c flag n u)) out
 
--- the m bytes given are within the output
-pub given-fits : (c : Settings) (flag : Bool) (n : ℕ) (u out : List ℕ) (m : ℕ) → sentOf c flag n u out .sending ≡ Sent m → m ≤ length out
-given-fits c flag n u out m p = let g = given c flag n u out m p in omega (arith, g .size, g .accepted .room)
+  pub given : (m : ℕ) → sentOf c flag n u out .sending ≡ Sent m → Given m
+  unfolding written
+  given m p = go (ℕ-discrete (firstOf (sendLines c flag n u out)) 0)
+    where
+      go : Dec (firstOf (sendLines c flag n u out) ≡ 0) → Given m
+      go (yes q) =
+          let size : Sent (length (flatten (sections c flag n u))) ≡ Sent m = rw (sent-is q) at p in
+          record { accepted = accepted q; size = cc; output = ap (λ (o : SendOutcome). o .output) (sent-is q) }
+      go (no q) = let other = rw (unsent-is q) at p in let z : _≡_ {A = ℕ} 0 1 = cc in absurd (omega arith)
 
--- the m bytes given are the sections
-pub given-bytes : (c : Settings) (flag : Bool) (n : ℕ) (u out : List ℕ) (m : ℕ) → Given c flag n u out m
-    → take m (sentOf c flag n u out .output) ≡ flatten (sections c flag n u)
-given-bytes c flag n u out m g =
-    let bytes : List ℕ = flatten (sections c flag n u) in
-    rw (g .output, take-all (length out) bytes (g .accepted .room)) (take-at bytes (drop (length bytes) out) m (sym (g .size)))
+  -- the m bytes given are within the output
+  pub given-fits : (m : ℕ) → sentOf c flag n u out .sending ≡ Sent m → m ≤ length out
+  given-fits m p = let g = given m p in omega (arith, g .size, g .accepted .room)
+
+  -- the m bytes given are the sections
+  pub given-bytes : (m : ℕ) → Given m → take m (sentOf c flag n u out .output) ≡ flatten (sections c flag n u)
+  given-bytes m g =
+      let bytes : List ℕ = flatten (sections c flag n u) in
+      rw (g .output, take-all (length out) bytes (g .accepted .room)) (take-at bytes (drop (length bytes) out) m (sym (g .size)))
 
 -- ---- how many sections
 pub count-some : (n : ℕ) (u : List ℕ) → 0 < sectionCount n u
@@ -146,7 +145,8 @@ pub pieces-all : (n : ℕ) (u : List ℕ) → 0 < n → take (sectionCount n u *
 pieces-all n u some = take-all (sectionCount n u * n) u (count-covers n u some)
 
 -- ---- the sections
-pub section-size : (a : Address) (flag : Bool) (number last : ℕ) (p : List ℕ) → length (sectionOf a flag number last p) ≡ length p + 16
+pub section-size : (a : Address) (flag : Bool) (number last : ℕ) (p : List ℕ)
+    → length (sectionOf a flag number last p) ≡ length p + 16
 unfolding sectionOf header
 section-size a flag number last p = sealed-length (header a flag number last (length p + 13) ++ p) ∙ omega arith
 
@@ -167,7 +167,8 @@ module _ (c : Settings) (flag : Bool) (n : ℕ) (u : List ℕ) where
   bytes-to (suc k) =
       let p : List ℕ = take n (drop (k * n) u) in
       let last : ℕ = sectionCount n u - 1 in
-      rw (bytes-more k, suc-mul k n, ← drop-drop n (k * n) u, length-append, section-size (c .address) flag k last p, length-take, length-drop n (drop (k * n) u))
+      let size = section-size (c .address) flag k last p in
+      rw (bytes-more k, suc-mul k n, ← drop-drop n (k * n) u, length-append, size, length-take, length-drop n (drop (k * n) u))
       (omega (arith, bytes-to k))
 
   -- the total length
@@ -215,5 +216,5 @@ module _ (c : Settings) (flag : Bool) (n : ℕ) (u : List ℕ) where
     unfolding sectionsTo joined sectionAt
     joined-to zero h = rw (zero-mul n)
     joined-to (suc k) h =
-        rw (joined-more (sectionsTo c flag n u k) (sectionAt c flag n u k), joined-to k (omega arith), section-written k (omega arith) .carried)
-        (pieces-more n u k)
+        let carried = section-written k (omega arith) .carried in
+        rw (joined-more (sectionsTo c flag n u k) (sectionAt c flag n u k), joined-to k (omega arith), carried) (pieces-more n u k)

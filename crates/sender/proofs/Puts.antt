@@ -28,7 +28,7 @@ pub puts-more : {s t b b′ b″ : List ℕ} {at e f : ℕ} → at + (length s +
 puts-more {s} {t} {b} {b′} {b″} {at} {e} {f} h p q =
     let room : at ≤ length b = omega arith in
     let front : take e b′ ≡ take at b ++ s =
-    rw (p .end, p .bytes) (take-paste b at s (length s) room (le-refl (length s)) ∙ ap (λ (x : List ℕ). take at b ++ x) (take-length s)) in
+    rw (p .end, p .bytes) (take-paste b at s (length s) room (le-refl (length s)) ∙ rw (take-length s)) in
     let size = length-append s t in
     let place : at + length s + length t ≡ at + (length s + length t) = omega arith in
     let behind : drop (e + length t) b′ ≡ drop (at + length (s ++ t)) b =
@@ -44,8 +44,9 @@ pub puts-read : {s b b′ : List ℕ} {at e : ℕ} → at + length s ≤ length 
 puts-read {s} {b} {b′} {at} {e} h p =
     let size : e - at ≡ length s = omega (arith, p .end) in
     let room : length (take at b) ≡ at = length-take-le at b (omega arith) in
-    rw (size, p .bytes, take-length s, append-assoc (take at b) s (drop (at + length s) b), drop-at (take at b) (s ++ drop (at + length s) b) at room)
-    (take-at s (drop (at + length s) b) (length s) refl)
+    let behind : List ℕ = drop (at + length s) b in
+    rw (size, p .bytes, take-length s, append-assoc (take at b) s behind, drop-at (take at b) (s ++ behind) at room)
+    (take-at s behind (length s) refl)
 
 -- header and piece, and the CRC_32 of what is read back of them
 pub puts-sealed : {h p q b b′ b″ b‴ : List ℕ} {at e f r : ℕ} → at + (length h + length p + 4) ≤ length b

@@ -79,7 +79,8 @@ module _ (c : Settings) (flag : Bool) (n : ℕ) (u before : List ℕ) where
           within = omega arith;
           same = ap length (p .bytes) ∙ length-paste out at sec (length sec) room (le-refl (length sec)) ∙ s .same;
           left =
-              take-all (length rest - m) (drop m rest) behind ∙ ap (λ (k : ℕ). drop k rest) e ∙ drop-min n rest ∙ ap (drop n) (s .left)
+              take-all (length rest - m) (drop m rest) behind
+              ∙ ap (λ (k : ℕ). drop k rest) e ∙ drop-min n rest ∙ ap (drop n) (s .left)
               ∙ drop-drop n (i * n) u ∙ ap (λ (k : ℕ). drop k u) next;
           puts = rw (add-one i, bytes-more c flag n u i, ← is) (puts-more (omega (arith, s .puts .end, s .same)) (s .puts) p);
         }

@@ -1,3 +1,4 @@
+-- What the sender gives is within the output.
 use native.Mathlib.Omega.{arith}
 use mathlib.Core.Path.{sym}
 use mathlib.Core.Bool.{false}
@@ -10,69 +11,51 @@ use Rattle.archive.specs.Archive.{settings}
 use borrow.Author.Needs.{needs}
 use Rattle.archive.proofs.answer.Statement.{statement}
 use Rattle.archive.proofs.answer.Tie as tie
-use Rattle.archive.proofs.answer.Reads as reads
-use Rattle.archive.proofs.answer.Lts as lts
-use Rattle.archive.proofs.archive.Reads as archive-reads
-use Rattle.io.proofs.print_decimal.Reads as print-decimal-reads
-use Rattle.io.proofs.write_all.Reads as write-all-reads
 
--- src/main.rt:64:11
 archive-requires : tie.Need-archive-requires
 archive-requires c κs = search needs
 
--- src/main.rt:65:23
 enum-known-length : tie.Need-enum-known-length
 enum-known-length c = search needs
 
--- src/main.rt:66:42
 slice-reshare-prefix-write-all : tie.Need-slice-reshare-prefix-write-all
 slice-reshare-prefix-write-all c =
     let r = c .before .before .before .before .before in
     let a = r .before .before .before .before .args in
-    let fits = given-fits settings false defaultPiece (now (a .unit)) (now (a .out)) _ (was (r .archive .ensures .sending) (c .before .length .given .1)) in
+    let sent = was (r .archive .ensures .sending) (c .before .length .given .1) in
+    let fits = given-fits settings false defaultPiece (now (a .unit)) (now (a .out)) _ sent in
     omega (arith, fits)
 
--- src/main.rt:66:42
 slice-aggregate-write-all : tie.Need-slice-aggregate-write-all
 slice-aggregate-write-all c = sym (length-take-le _ _ (slice-reshare-prefix-write-all (c .before)))
 
--- src/main.rt:66:13
 write-all-requires : tie.Need-write-all-requires
 write-all-requires c κs = search needs
 
--- src/main.rt:68:25
 enum-known-number : tie.Need-enum-known-number
 enum-known-number c = search needs
 
--- src/main.rt:69:46
 cast-print-decimal : tie.Need-cast-print-decimal
 cast-print-decimal c = search needs
 
--- src/main.rt:69:13
 print-decimal-requires : tie.Need-print-decimal-requires
 print-decimal-requires c κs = search needs
 
--- src/main.rt:70:42
 slice-aggregate-write-all-2 : tie.Need-slice-aggregate-write-all-2
 slice-aggregate-write-all-2 c = search needs
 
--- src/main.rt:70:13
 write-all-requires-2 : tie.Need-write-all-requires-2
 write-all-requires-2 c κs = search needs
 
--- src/main.rt:63:1
 same-length : tie.Need-same-length
 same-length c = search needs
 
--- src/main.rt:63:1
 returns : tie.Need-returns
 returns c = search needs
 
--- src/main.rt:63:1
 same-length-2 : tie.Need-same-length-2
 same-length-2 c = search needs
 
--- src/main.rt:63:1
 returns-2 : tie.Need-returns-2
 returns-2 c = search needs
 

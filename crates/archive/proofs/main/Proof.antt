@@ -1,3 +1,4 @@
+-- What was read is within the buffer.
 use native.Mathlib.Omega.{arith}
 use mathlib.Core.Path.{ap, sym}
 use lib.Seq.{length-take-le}
@@ -5,57 +6,41 @@ use Rattle.archive.specs.Archive.{countOf}
 use borrow.Author.Needs.{needs}
 use Rattle.archive.proofs.main.Statement.{statement}
 use Rattle.archive.proofs.main.Tie as tie
-use Rattle.archive.proofs.main.Reads as reads
-use Rattle.archive.proofs.main.Lts as lts
-use Rattle.archive.proofs.answer.Reads as answer-reads
-use Rattle.archive.proofs.read_input.Reads as read-input-reads
-use Rattle.io.proofs.large_buffer.Reads as large-buffer-reads
 
--- src/main.rt:85:20
 large-buffer-requires : tie.Need-large-buffer-requires
 large-buffer-requires c κs = search needs
 
--- src/main.rt:86:19
 large-buffer-requires-2 : tie.Need-large-buffer-requires-2
 large-buffer-requires-2 c κs = search needs
 
--- src/main.rt:87:43
 slice-aggregate-read-input : tie.Need-slice-aggregate-read-input
 slice-aggregate-read-input c = search needs
 
--- src/main.rt:87:32
 read-input-requires : tie.Need-read-input-requires
 read-input-requires c κs = search needs
 
--- src/main.rt:87:22
 enum-known-length : tie.Need-enum-known-length
 enum-known-length c = search needs
 
--- src/main.rt:88:9
 enum-told : tie.Need-enum-told
 enum-told c = search needs
 
--- src/main.rt:88:9
 returns : tie.Need-returns
 returns c = search needs
 
--- src/main.rt:90:12
 array-share-prefix-unit : tie.Need-array-share-prefix-unit
-array-share-prefix-unit c = omega (arith, ap countOf (c .before .length .given .1), c .before .before .before .before .read-input .ensures .0)
+array-share-prefix-unit c =
+    omega (arith, ap countOf (c .before .length .given .1), c .before .before .before .before .read-input .ensures .0)
 
--- src/main.rt:90:12
 slice-aggregate-answer : tie.Need-slice-aggregate-answer
 slice-aggregate-answer c = sym (length-take-le _ _ (array-share-prefix-unit (c .before)))
 
--- src/main.rt:90:29
 slice-aggregate-answer-2 : tie.Need-slice-aggregate-answer-2
 slice-aggregate-answer-2 c = search needs
 
--- src/main.rt:90:5
 answer-requires : tie.Need-answer-requires
 answer-requires c κs = search needs
 
--- src/main.rt:84:1
 returns-2 : tie.Need-returns-2
 returns-2 c = search needs
 

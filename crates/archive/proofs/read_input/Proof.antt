@@ -1,3 +1,4 @@
+-- What is filled stays within the buffer, and each turn but the last fills more of it.
 use Prim.Native.Nat.{_-_, _≤_}
 use native.Mathlib.Omega.{arith}
 use mathlib.Core.Path.{_≡_, ap}
@@ -7,9 +8,6 @@ use lib.ListN.{length}
 use borrow.Author.Needs.{needs}
 use Rattle.archive.proofs.read_input.Statement.{statement}
 use Rattle.archive.proofs.read_input.Tie as tie
-use Rattle.archive.proofs.read_input.Reads as reads
-use Rattle.archive.proofs.read_input.Lts as lts
-use Rattle.archive.proofs.read_some.Reads as read-some-reads
 
 abbrev Inv-loop : tie.InvT-loop
 Inv-loop buffer₀ filled₀ buffer filled = (filled ≤ length buffer) × (length buffer ≡ length buffer₀)
@@ -17,73 +15,57 @@ Inv-loop buffer₀ filled₀ buffer filled = (filled ≤ length buffer) × (leng
 abbrev μ-loop : tie.MeasureT-loop
 μ-loop buffer₀ filled₀ buffer filled = length buffer - filled
 
--- src/main.rt:36:5
 loop-holds : tie.Need-loop-holds Inv-loop μ-loop
 loop-holds c = search needs
 
--- src/main.rt:37:44
 sub-read-some : tie.Need-sub-read-some Inv-loop μ-loop
 sub-read-some c = search needs
 
--- src/main.rt:37:44
 part-read-some-start : tie.Need-part-read-some-start Inv-loop μ-loop
 part-read-some-start c = search needs
 
--- src/main.rt:37:44
 part-read-some-end : tie.Need-part-read-some-end Inv-loop μ-loop
 part-read-some-end c = search needs
 
--- src/main.rt:37:34
 read-some-requires : tie.Need-read-some-requires Inv-loop μ-loop
 read-some-requires c κs = search needs
 
--- src/main.rt:37:26
 enum-known-more : tie.Need-enum-known-more Inv-loop μ-loop
 enum-known-more c = search needs
 
--- src/main.rt:38:13
 enum-told : tie.Need-enum-told Inv-loop μ-loop
 enum-told c = search needs
 
--- src/main.rt:38:13
 same-length : tie.Need-same-length Inv-loop μ-loop
 same-length c = search needs
 
--- src/main.rt:38:13
 returns : tie.Need-returns Inv-loop μ-loop
 returns c = search needs
 
--- src/main.rt:43:9
 add-filled : tie.Need-add-filled Inv-loop μ-loop
 add-filled c =
     let r = c .before .before .before .before .before .before in
     let most = ap countOf (c .before .before .more .given .1) in
     omega (arith, most, r .read-some .ensures .0)
 
--- src/main.rt:36:5
 loop-less : tie.Need-loop-less Inv-loop μ-loop
 loop-less c = search needs
 
--- src/main.rt:36:5
 loop-again : tie.Need-loop-again Inv-loop μ-loop
 loop-again c =
     let r = c .before .before .before .before .before .before in
     let most = ap countOf (c .before .before .more .given .1) in
     (omega (arith, most, r .read-some .ensures .0), omega arith)
 
--- src/main.rt:32:1
 same-length-2 : tie.Need-same-length-2 Inv-loop μ-loop
 same-length-2 c = search needs
 
--- src/main.rt:32:1
 returns-2 : tie.Need-returns-2 Inv-loop μ-loop
 returns-2 c = counts _ _ (c .before .loop .inv .0)
 
--- src/main.rt:32:1
 same-length-3 : tie.Need-same-length-3 Inv-loop μ-loop
 same-length-3 c = search needs
 
--- src/main.rt:32:1
 returns-3 : tie.Need-returns-3 Inv-loop μ-loop
 returns-3 c = counts _ _ (omega arith)
 

@@ -57,7 +57,8 @@ returns c =
     let head = first .before .before .before in
     let start = head .before .before .before in
     rw (← head .header .ensures)
-    (puts-sealed (omega (arith, start .pre)) (first .put .ensures) (second .put2 .ensures) (rw (sum .u32-bytes .ensures, sum .before .crc-32 .ensures)) (c .before .before .put3 .ensures))
+    (puts-sealed (omega (arith, start .pre)) (first .put .ensures) (second .put2 .ensures)
+    (rw (sum .u32-bytes .ensures, sum .before .crc-32 .ensures)) (c .before .before .put3 .ensures))
 
 pub put-section-spec : {M : Type 1} → statement M
 put-section-spec =

@@ -58,7 +58,8 @@ put-section-requires : tie.Need-put-section-requires Inv-loop μ-loop
 put-section-requires c κs =
     let turn = c .before .before .before .before in
     let a = turn .before .before .before .before .before .args in
-    stage-room (a .settings) (a .flag) (a .size) (now (a .unit)) (now (a .out)) (turn .before .loop .inv) _ (turn .loop-test .taken) (c .before .before .smaller .ensures)
+    stage-room (a .settings) (a .flag) (a .size) (now (a .unit)) (now (a .out)) (turn .before .loop .inv) _ (turn .loop-test .taken)
+    (c .before .before .smaller .ensures)
 
 sub-rest : tie.Need-sub-rest Inv-loop μ-loop
 sub-rest c = omega arith
@@ -80,7 +81,8 @@ loop-again c =
     let put = c .before .before .before in
     let turn = put .before .before .before .before .before in
     let a = turn .before .before .before .before .before .args in
-    stage-next (a .settings) (a .flag) (a .size) (now (a .unit)) (now (a .out)) (turn .before .loop .inv) _ (turn .loop-test .taken) (put .before .before .before .smaller .ensures) (put .put-section .ensures)
+    stage-next (a .settings) (a .flag) (a .size) (now (a .unit)) (now (a .out)) (turn .before .loop .inv) _ (turn .loop-test .taken)
+    (put .before .before .before .smaller .ensures) (put .put-section .ensures)
 
 same-length : tie.Need-same-length Inv-loop μ-loop
 same-length c = c .before .loop .inv .same

@@ -61,8 +61,9 @@ returns-4 c flag =
     let t10 = was (ap not (s .before .before .settings-good .ensures)) (s .before .if1 .left) in
     let t50 = was (ap not (s .size-good .ensures)) (n .before .before .if2 .left) in
     let some = leb-true 1 (a .size) (both-true _ _ (not-false _ t50) .0) in
+    let total = sections-bytes (a .settings) flag (a .size) (now (a .unit)) some in
     not-first 10 _ t10 (not-first 50 _ t50 (not-first 51 _ (le-ltb 65535 _ (n .before .if3 .left))
-    (rw (c .first2 .ensures, c .before .before .first .ensures, n .section-count .ensures .is, sections-bytes (a .settings) flag (a .size) (now (a .unit)) some))))
+    (rw (c .first2 .ensures, c .before .before .first .ensures, n .section-count .ensures .is, total))))
 
 pub refusal-spec : {M : Type 1} → statement M
 refusal-spec =
