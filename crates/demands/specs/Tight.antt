@@ -21,7 +21,7 @@ use Rattle.exports.proofs.fossknut_receive.Reads as fossknut-receive-reads
 use Rattle.exports.proofs.fossknut_receive.Kinds as fossknut-receive-kinds
 use Rattle.exports.proofs.fossknut_gap.Reads as fossknut-gap-reads
 use Rattle.exports.proofs.fossknut_gap.Kinds as fossknut-gap-kinds
-use Rattle.exports.specs.State.{numbers}
+use Rattle.exports.specs.Numbers.{numbers}
 use Rattle.receiver.proofs.receive.Reads as receive-reads
 use Rattle.receiver.proofs.receive.Kinds as receive-kinds
 use Rattle.receiver.proofs.gap.Reads as gap-reads

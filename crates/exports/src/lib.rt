@@ -1,15 +1,16 @@
 // What the Rust box links: functions on numbers and byte slices only. A slice passes as a pointer and then a length.
-mod state;
+mod numbers;
 
-use rules::Address;
-use rules::Settings;
-use state::put;
-use state::state_of;
+use numbers::put;
+use numbers::settings_of;
+use numbers::state_of;
 ghost use mathlib.Core.Path.{_≡_};
 ghost use Rattle.rules.specs.Check.{check};
 ghost use Rattle.rules.specs.Crc.{crc32};
+ghost use Rattle.rules.specs.Send.{sentOf, defaultPiece};
 ghost use Rattle.rules.specs.Step.{stepOf, gapOf};
-ghost use Rattle.exports.specs.State.{address, settings, numbers, stateOf, numbersOf, Given};
+ghost use Rattle.exports.specs.Numbers.{settingsOf, flagOf, numbers, stateOf, numbersOf};
+ghost use Rattle.exports.specs.Given.{Given, Gives};
 
 // CRC_32 of the bytes.
 #[no_mangle]
@@ -50,7 +51,7 @@ pub extern "C" fn fossknut_receive(
 ) -> u8
     ensures { λ r. ⌜ Given
         (stepOf
-        (settings (address mac1 mac2 mac3 mac4 mac5 mac6) range limit)
+        (settingsOf mac1 mac2 mac3 mac4 mac5 mac6 range limit)
         (stateOf (numbers (now (run .entry)) (now (next .entry)) (now (last .entry)) (now (filled .entry)) (now (flag .entry))))
         (now (s .entry))
         (now (buffer .entry)))
@@ -59,18 +60,7 @@ pub extern "C" fn fossknut_receive(
         (numbers (now (run .exit)) (now (next .exit)) (now (last .exit)) (now (filled .exit)) (now (flag .exit)))
         (now (buffer .exit)) ⌝ }
 {
-    let settings = Settings {
-        address: Address {
-            mac1: mac1,
-            mac2: mac2,
-            mac3: mac3,
-            mac4: mac4,
-            mac5: mac5,
-            mac6: mac6,
-        },
-        range: range,
-        limit: limit,
-    };
+    let settings = settings_of(mac1, mac2, mac3, mac4, mac5, mac6, range, limit);
     let step = receiver::receive(
         settings,
         state_of(*run, *next, *last, *filled, *flag),
@@ -99,4 +89,55 @@ pub extern "C" fn fossknut_gap(
 {
     let state = receiver::gap(state_of(*run, *next, *last, *filled, *flag));
     put(state, run, next, last, filled, flag);
+}
+
+// The sender. The address is six numbers in printed order, any flag but 0 is 1, and the total length goes to `length`.
+#[no_mangle]
+pub extern "C" fn fossknut_send(
+    mac1: u8,
+    mac2: u8,
+    mac3: u8,
+    mac4: u8,
+    mac5: u8,
+    mac6: u8,
+    range: usize,
+    limit: usize,
+    flag: u8,
+    size: usize,
+    unit: &[u8],
+    out: &mut [u8],
+    length: &mut usize,
+) -> u8
+    ensures { λ r. ⌜ Gives (sentOf (settingsOf mac1 mac2 mac3 mac4 mac5 mac6 range limit) (flagOf flag) size (now (unit .entry)) (now (out .entry)))
+        r (now (length .exit)) (now (out .exit)) ⌝ }
+{
+    let settings = settings_of(mac1, mac2, mac3, mac4, mac5, mac6, range, limit);
+    let sending = sender::send(settings, flag != 0, size, unit, out);
+    *length = sender::length_of(sending);
+    sender::number_of(sending)
+}
+
+// The same with no piece size given.
+#[no_mangle]
+pub extern "C" fn fossknut_send_by_default(
+    mac1: u8,
+    mac2: u8,
+    mac3: u8,
+    mac4: u8,
+    mac5: u8,
+    mac6: u8,
+    range: usize,
+    limit: usize,
+    flag: u8,
+    unit: &[u8],
+    out: &mut [u8],
+    length: &mut usize,
+) -> u8
+    ensures { λ r. ⌜ Gives (sentOf (settingsOf mac1 mac2 mac3 mac4 mac5 mac6 range limit) (flagOf flag) defaultPiece (now (unit .entry)) (now (out .entry)))
+        r (now (length .exit)) (now (out .exit)) ⌝ }
+{
+    let settings = settings_of(mac1, mac2, mac3, mac4, mac5, mac6, range, limit);
+    let sending = sender::send_by_default(settings, flag != 0, unit, out);
+    *length = sender::length_of(sending);
+    sender::number_of(sending)
 }

@@ -1,11 +1,14 @@
 pub mod Check
 pub mod Crc
+pub mod Cut
+pub mod Demand2
 pub mod Due
 pub mod Finish
 pub mod Keys
 pub mod Lists
 pub mod Row
 pub mod Runs
+pub mod Send
 pub mod Sound
 pub mod Track
 pub mod Written

@@ -1,8 +1,11 @@
 -- What is written is read off the step that `receive` made from the state that the numbers meant.
-use Rattle.exports.proofs.Laws.{given}
+use Rattle.exports.proofs.Given.{given}
 use borrow.Author.Needs.{needs}
 use Rattle.exports.proofs.fossknut_receive.Statement.{statement}
 use Rattle.exports.proofs.fossknut_receive.Tie as tie
+
+settings-of-requires : tie.Need-settings-of-requires
+settings-of-requires c κs = search needs
 
 state-of-requires : tie.Need-state-of-requires
 state-of-requires c κs = search needs
@@ -25,13 +28,15 @@ same-length c = search needs
 returns : tie.Need-returns
 returns c =
     let stepped = c .before .before .before .before .before .before .before .before .before .before in
-    given _ (stepped .receive .result) (rw (stepped .before .before .state-of .ensures) at (stepped .receive .ensures))
+    let meant = stepped .before .before in
+    given _ (stepped .receive .result) (rw (meant .state-of .ensures, meant .before .before .before .before .before .before .settings-of .ensures) at (stepped .receive .ensures))
     (c .number-of .ensures) (c .before .length-of .ensures) (c .before .before .put .ensures)
 
 pub fossknut-receive-spec : {M : Type 1} → statement M
 fossknut-receive-spec =
     tie.close
     (tie.spec
+    settings-of-requires
     state-of-requires
     receive-requires
     put-requires

@@ -1,10 +1,10 @@
 -- Each branch writes the numbers of its case.
 use mathlib.Core.Path.{sym, ap}
-use Rattle.exports.proofs.Laws.{flag-byte}
-use Rattle.exports.specs.State.{numbersOf}
+use Rattle.exports.proofs.Meaning.{flag-byte}
+use Rattle.exports.specs.Numbers.{numbersOf}
 use borrow.Author.Needs.{needs}
-use Rattle.exports.proofs.state.put.Statement.{statement}
-use Rattle.exports.proofs.state.put.Tie as tie
+use Rattle.exports.proofs.numbers.put.Statement.{statement}
+use Rattle.exports.proofs.numbers.put.Tie as tie
 
 enum-known-state : tie.Need-enum-known-state
 enum-known-state c = search needs

@@ -2,9 +2,9 @@
 use mathlib.Core.Path.{refl}
 use borrow.Author.Tests.{eq-eqb, ne-eqb}
 use Rattle.wire.proofs.Choice.{yes-pick, not-pick}
-use Rattle.exports.specs.State.{stateOf}
-use Rattle.exports.proofs.state.state_of.Statement.{statement}
-use Rattle.exports.proofs.state.state_of.Tie as tie
+use Rattle.exports.specs.Numbers.{stateOf}
+use Rattle.exports.proofs.numbers.state_of.Statement.{statement}
+use Rattle.exports.proofs.numbers.state_of.Tie as tie
 
 returns : tie.Need-returns
 unfolding stateOf

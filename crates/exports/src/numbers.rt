@@ -1,8 +1,37 @@
-// The receiver's state as numbers.
+// Settings and a receiver's state as numbers.
+use rules::Address;
 use rules::Key;
+use rules::Settings;
 use rules::State;
 ghost use mathlib.Core.Path.{_≡_};
-ghost use Rattle.exports.specs.State.{numbers, stateOf, numbersOf};
+ghost use Rattle.exports.specs.Numbers.{settingsOf, numbers, stateOf, numbersOf};
+
+// Settings as numbers: the address in printed order, MAC_address_1 first.
+pub fn settings_of(
+    mac1: u8,
+    mac2: u8,
+    mac3: u8,
+    mac4: u8,
+    mac5: u8,
+    mac6: u8,
+    range: usize,
+    limit: usize,
+) -> Settings
+    ensures { λ r. ⌜ r ≡ settingsOf mac1 mac2 mac3 mac4 mac5 mac6 range limit ⌝ }
+{
+    Settings {
+        address: Address {
+            mac1: mac1,
+            mac2: mac2,
+            mac3: mac3,
+            mac4: mac4,
+            mac5: mac5,
+            mac6: mac6,
+        },
+        range: range,
+        limit: limit,
+    }
+}
 
 // The state that the numbers mean.
 pub fn state_of(run: u8, next: usize, last: usize, filled: usize, flag: u8) -> State
