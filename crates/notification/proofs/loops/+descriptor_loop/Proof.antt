@@ -1,0 +1,288 @@
+use Prim.Native.Nat.{ℕ, _<_}
+use borrow.Fn.Kinds.{In}
+use borrow.Fn.PlainCycle.{Measures, is, falls, and}
+use Rattle.notification.proofs.loops.descriptor_loop.Reads as descriptor-loop
+use Rattle.notification.proofs.loops.descriptor_loop.Kinds as descriptor-loop-kinds
+use Rattle.notification.proofs.loops.+descriptor_loop.Lts-descriptor_loop as descriptor-loop-lts
+use Rattle.notification.proofs.loops.descriptor_size.Reads as descriptor-size-reads
+use Rattle.notification.proofs.loops.right_length.Reads as right-length-reads
+use Rattle.wire.proofs.byte_at.Reads as byte-at-reads
+use Rattle.wire.proofs.either.Reads as either-reads
+use Rattle.wire.proofs.first.Reads as first-reads
+use Rattle.notification.proofs.loops.+descriptor_loop.{statement}
+use Rattle.notification.proofs.loops.+descriptor_loop.Tie.{close}
+
+abbrev μ-descriptor-loop : Measures 1 descriptor-loop-kinds.ps ℕ
+μ-descriptor-loop κs a = ?
+
+abbrev descriptor-loop-at : ℕ → In 1 descriptor-loop-kinds.ps
+descriptor-loop-at t =
+    and
+    1
+    descriptor-loop-kinds.ps
+    (is 1 descriptor-loop-kinds.ps μ-descriptor-loop t)
+    descriptor-loop.Pre
+
+abbrev descriptor-loop-below : ℕ → In 1 descriptor-loop-kinds.ps
+descriptor-loop-below t =
+    and
+    1
+    descriptor-loop-kinds.ps
+    (falls 1 descriptor-loop-kinds.ps _<_ μ-descriptor-loop t)
+    descriptor-loop.Pre
+
+-- src/loops.rt:47:9
+descriptor-loop-first-requires : (t : ℕ) → descriptor-loop-lts.Need-first-requires (
+  first-reads.Asked,
+  first-reads.Learnt,
+  descriptor-size-reads.Asked,
+  descriptor-size-reads.Learnt,
+  byte-at-reads.Asked,
+  byte-at-reads.Learnt,
+  right-length-reads.Asked,
+  right-length-reads.Learnt,
+  either-reads.Asked,
+  either-reads.Learnt,
+  descriptor-loop-below t,
+  descriptor-loop.Post,
+) (descriptor-loop-at t) descriptor-loop.Post
+descriptor-loop-first-requires t c κs = ?
+
+-- src/loops.rt:47:9
+descriptor-loop-returns : (t : ℕ) → descriptor-loop-lts.Need-returns (
+  first-reads.Asked,
+  first-reads.Learnt,
+  descriptor-size-reads.Asked,
+  descriptor-size-reads.Learnt,
+  byte-at-reads.Asked,
+  byte-at-reads.Learnt,
+  right-length-reads.Asked,
+  right-length-reads.Learnt,
+  either-reads.Asked,
+  either-reads.Learnt,
+  descriptor-loop-below t,
+  descriptor-loop.Post,
+) (descriptor-loop-at t) descriptor-loop.Post
+descriptor-loop-returns t c = ?
+
+-- src/loops.rt:49:9
+descriptor-loop-descriptor-size-requires :
+    (t : ℕ) → descriptor-loop-lts.Need-descriptor-size-requires (
+      first-reads.Asked,
+      first-reads.Learnt,
+      descriptor-size-reads.Asked,
+      descriptor-size-reads.Learnt,
+      byte-at-reads.Asked,
+      byte-at-reads.Learnt,
+      right-length-reads.Asked,
+      right-length-reads.Learnt,
+      either-reads.Asked,
+      either-reads.Learnt,
+      descriptor-loop-below t,
+      descriptor-loop.Post,
+    ) (descriptor-loop-at t) descriptor-loop.Post
+descriptor-loop-descriptor-size-requires t c κs = ?
+
+-- src/loops.rt:51:9
+descriptor-loop-returns-2 : (t : ℕ) → descriptor-loop-lts.Need-returns-2 (
+  first-reads.Asked,
+  first-reads.Learnt,
+  descriptor-size-reads.Asked,
+  descriptor-size-reads.Learnt,
+  byte-at-reads.Asked,
+  byte-at-reads.Learnt,
+  right-length-reads.Asked,
+  right-length-reads.Learnt,
+  either-reads.Asked,
+  either-reads.Learnt,
+  descriptor-loop-below t,
+  descriptor-loop.Post,
+) (descriptor-loop-at t) descriptor-loop.Post
+descriptor-loop-returns-2 t c = ?
+
+-- src/loops.rt:53:30
+descriptor-loop-byte-at-requires : (t : ℕ) → descriptor-loop-lts.Need-byte-at-requires (
+  first-reads.Asked,
+  first-reads.Learnt,
+  descriptor-size-reads.Asked,
+  descriptor-size-reads.Learnt,
+  byte-at-reads.Asked,
+  byte-at-reads.Learnt,
+  right-length-reads.Asked,
+  right-length-reads.Learnt,
+  either-reads.Asked,
+  either-reads.Learnt,
+  descriptor-loop-below t,
+  descriptor-loop.Post,
+) (descriptor-loop-at t) descriptor-loop.Post
+descriptor-loop-byte-at-requires t c κs = ?
+
+-- src/loops.rt:53:45
+descriptor-loop-byte-at-requires-2 : (t : ℕ) → descriptor-loop-lts.Need-byte-at-requires-2 (
+  first-reads.Asked,
+  first-reads.Learnt,
+  descriptor-size-reads.Asked,
+  descriptor-size-reads.Learnt,
+  byte-at-reads.Asked,
+  byte-at-reads.Learnt,
+  right-length-reads.Asked,
+  right-length-reads.Learnt,
+  either-reads.Asked,
+  either-reads.Learnt,
+  descriptor-loop-below t,
+  descriptor-loop.Post,
+) (descriptor-loop-at t) descriptor-loop.Post
+descriptor-loop-byte-at-requires-2 t c κs = ?
+
+-- src/loops.rt:53:9
+descriptor-loop-right-length-requires : (t : ℕ) → descriptor-loop-lts.Need-right-length-requires (
+  first-reads.Asked,
+  first-reads.Learnt,
+  descriptor-size-reads.Asked,
+  descriptor-size-reads.Learnt,
+  byte-at-reads.Asked,
+  byte-at-reads.Learnt,
+  right-length-reads.Asked,
+  right-length-reads.Learnt,
+  either-reads.Asked,
+  either-reads.Learnt,
+  descriptor-loop-below t,
+  descriptor-loop.Post,
+) (descriptor-loop-at t) descriptor-loop.Post
+descriptor-loop-right-length-requires t c κs = ?
+
+-- src/loops.rt:54:21
+descriptor-loop-sub-descriptor-loop : (t : ℕ) → descriptor-loop-lts.Need-sub-descriptor-loop (
+  first-reads.Asked,
+  first-reads.Learnt,
+  descriptor-size-reads.Asked,
+  descriptor-size-reads.Learnt,
+  byte-at-reads.Asked,
+  byte-at-reads.Learnt,
+  right-length-reads.Asked,
+  right-length-reads.Learnt,
+  either-reads.Asked,
+  either-reads.Learnt,
+  descriptor-loop-below t,
+  descriptor-loop.Post,
+) (descriptor-loop-at t) descriptor-loop.Post
+descriptor-loop-sub-descriptor-loop t c = ?
+
+-- src/loops.rt:54:21
+descriptor-loop-part-descriptor-loop-start :
+    (t : ℕ) → descriptor-loop-lts.Need-part-descriptor-loop-start (
+      first-reads.Asked,
+      first-reads.Learnt,
+      descriptor-size-reads.Asked,
+      descriptor-size-reads.Learnt,
+      byte-at-reads.Asked,
+      byte-at-reads.Learnt,
+      right-length-reads.Asked,
+      right-length-reads.Learnt,
+      either-reads.Asked,
+      either-reads.Learnt,
+      descriptor-loop-below t,
+      descriptor-loop.Post,
+    ) (descriptor-loop-at t) descriptor-loop.Post
+descriptor-loop-part-descriptor-loop-start t c = ?
+
+-- src/loops.rt:54:21
+descriptor-loop-part-descriptor-loop-end :
+    (t : ℕ) → descriptor-loop-lts.Need-part-descriptor-loop-end (
+      first-reads.Asked,
+      first-reads.Learnt,
+      descriptor-size-reads.Asked,
+      descriptor-size-reads.Learnt,
+      byte-at-reads.Asked,
+      byte-at-reads.Learnt,
+      right-length-reads.Asked,
+      right-length-reads.Learnt,
+      either-reads.Asked,
+      either-reads.Learnt,
+      descriptor-loop-below t,
+      descriptor-loop.Post,
+    ) (descriptor-loop-at t) descriptor-loop.Post
+descriptor-loop-part-descriptor-loop-end t c = ?
+
+-- src/loops.rt:54:33
+descriptor-loop-either-requires : (t : ℕ) → descriptor-loop-lts.Need-either-requires (
+  first-reads.Asked,
+  first-reads.Learnt,
+  descriptor-size-reads.Asked,
+  descriptor-size-reads.Learnt,
+  byte-at-reads.Asked,
+  byte-at-reads.Learnt,
+  right-length-reads.Asked,
+  right-length-reads.Learnt,
+  either-reads.Asked,
+  either-reads.Learnt,
+  descriptor-loop-below t,
+  descriptor-loop.Post,
+) (descriptor-loop-at t) descriptor-loop.Post
+descriptor-loop-either-requires t c κs = ?
+
+-- src/loops.rt:54:5
+descriptor-loop-descriptor-loop-requires :
+    (t : ℕ) → descriptor-loop-lts.Need-descriptor-loop-requires (
+      first-reads.Asked,
+      first-reads.Learnt,
+      descriptor-size-reads.Asked,
+      descriptor-size-reads.Learnt,
+      byte-at-reads.Asked,
+      byte-at-reads.Learnt,
+      right-length-reads.Asked,
+      right-length-reads.Learnt,
+      either-reads.Asked,
+      either-reads.Learnt,
+      descriptor-loop-below t,
+      descriptor-loop.Post,
+    ) (descriptor-loop-at t) descriptor-loop.Post
+descriptor-loop-descriptor-loop-requires t c κs = ?
+
+-- src/loops.rt:43:1
+descriptor-loop-returns-3 : (t : ℕ) → descriptor-loop-lts.Need-returns-3 (
+  first-reads.Asked,
+  first-reads.Learnt,
+  descriptor-size-reads.Asked,
+  descriptor-size-reads.Learnt,
+  byte-at-reads.Asked,
+  byte-at-reads.Learnt,
+  right-length-reads.Asked,
+  right-length-reads.Learnt,
+  either-reads.Asked,
+  either-reads.Learnt,
+  descriptor-loop-below t,
+  descriptor-loop.Post,
+) (descriptor-loop-at t) descriptor-loop.Post
+descriptor-loop-returns-3 t c = ?
+
+pub +descriptor-loop-spec : {M : Type 1} → statement M
++descriptor-loop-spec = close μ-descriptor-loop λ t. descriptor-loop-lts.spec (
+  first-reads.Asked,
+  first-reads.Learnt,
+  descriptor-size-reads.Asked,
+  descriptor-size-reads.Learnt,
+  byte-at-reads.Asked,
+  byte-at-reads.Learnt,
+  right-length-reads.Asked,
+  right-length-reads.Learnt,
+  either-reads.Asked,
+  either-reads.Learnt,
+  descriptor-loop-below t,
+  descriptor-loop.Post,
+)
+    (descriptor-loop-at t)
+    descriptor-loop.Post
+    (descriptor-loop-first-requires t)
+    (descriptor-loop-returns t)
+    (descriptor-loop-descriptor-size-requires t)
+    (descriptor-loop-returns-2 t)
+    (descriptor-loop-byte-at-requires t)
+    (descriptor-loop-byte-at-requires-2 t)
+    (descriptor-loop-right-length-requires t)
+    (descriptor-loop-sub-descriptor-loop t)
+    (descriptor-loop-part-descriptor-loop-start t)
+    (descriptor-loop-part-descriptor-loop-end t)
+    (descriptor-loop-either-requires t)
+    (descriptor-loop-descriptor-loop-requires t)
+    (descriptor-loop-returns-3 t)

@@ -1,0 +1,414 @@
+use Prim.Native.Nat.{ℕ, _<_}
+use borrow.Fn.Kinds.{In}
+use borrow.Fn.PlainCycle.{Measures, is, falls, and}
+use Rattle.notification.proofs.loops.operational_loop.Reads as operational-loop
+use Rattle.notification.proofs.loops.operational_loop.Kinds as operational-loop-kinds
+use Rattle.notification.proofs.loops.+operational_loop+target_loop.Lts-operational_loop as operational-loop-lts
+use Rattle.notification.proofs.loops.target_loop.Reads as target-loop
+use Rattle.notification.proofs.loops.target_loop.Kinds as target-loop-kinds
+use Rattle.notification.proofs.loops.+operational_loop+target_loop.Lts-target_loop as target-loop-lts
+use Rattle.notification.proofs.loops.descriptor_loop.Reads as descriptor-loop-reads
+use Rattle.notification.proofs.loops.loop_size.Reads as loop-size-reads
+use Rattle.wire.proofs.first.Reads as first-reads
+use Rattle.notification.proofs.loops.+operational_loop+target_loop.{statement}
+use Rattle.notification.proofs.loops.+operational_loop+target_loop.Tie.{close}
+
+abbrev μ-operational-loop : Measures 1 operational-loop-kinds.ps ℕ
+μ-operational-loop κs a = ?
+
+abbrev μ-target-loop : Measures 1 target-loop-kinds.ps ℕ
+μ-target-loop κs a = ?
+
+abbrev operational-loop-at : ℕ → In 1 operational-loop-kinds.ps
+operational-loop-at t =
+    and
+    1
+    operational-loop-kinds.ps
+    (is 1 operational-loop-kinds.ps μ-operational-loop t)
+    operational-loop.Pre
+
+abbrev operational-loop-below : ℕ → In 1 operational-loop-kinds.ps
+operational-loop-below t =
+    and
+    1
+    operational-loop-kinds.ps
+    (falls 1 operational-loop-kinds.ps _<_ μ-operational-loop t)
+    operational-loop.Pre
+
+abbrev target-loop-at : ℕ → In 1 target-loop-kinds.ps
+target-loop-at t =
+    and 1 target-loop-kinds.ps (is 1 target-loop-kinds.ps μ-target-loop t) target-loop.Pre
+
+abbrev target-loop-below : ℕ → In 1 target-loop-kinds.ps
+target-loop-below t =
+    and 1 target-loop-kinds.ps (falls 1 target-loop-kinds.ps _<_ μ-target-loop t) target-loop.Pre
+
+-- src/loops.rt:79:9
+operational-loop-loop-size-requires : (t : ℕ) → operational-loop-lts.Need-loop-size-requires (
+  loop-size-reads.Asked,
+  loop-size-reads.Learnt,
+  descriptor-loop-reads.Asked,
+  descriptor-loop-reads.Learnt,
+  target-loop-below t,
+  target-loop.Post,
+) (operational-loop-at t) operational-loop.Post
+operational-loop-loop-size-requires t c κs = ?
+
+-- src/loops.rt:81:9
+operational-loop-returns : (t : ℕ) → operational-loop-lts.Need-returns (
+  loop-size-reads.Asked,
+  loop-size-reads.Learnt,
+  descriptor-loop-reads.Asked,
+  descriptor-loop-reads.Learnt,
+  target-loop-below t,
+  target-loop.Post,
+) (operational-loop-at t) operational-loop.Post
+operational-loop-returns t c = ?
+
+-- src/loops.rt:83:33
+operational-loop-sub-descriptor-loop : (t : ℕ) → operational-loop-lts.Need-sub-descriptor-loop (
+  loop-size-reads.Asked,
+  loop-size-reads.Learnt,
+  descriptor-loop-reads.Asked,
+  descriptor-loop-reads.Learnt,
+  target-loop-below t,
+  target-loop.Post,
+) (operational-loop-at t) operational-loop.Post
+operational-loop-sub-descriptor-loop t c = ?
+
+-- src/loops.rt:83:33
+operational-loop-part-descriptor-loop-start :
+    (t : ℕ) → operational-loop-lts.Need-part-descriptor-loop-start (
+      loop-size-reads.Asked,
+      loop-size-reads.Learnt,
+      descriptor-loop-reads.Asked,
+      descriptor-loop-reads.Learnt,
+      target-loop-below t,
+      target-loop.Post,
+    ) (operational-loop-at t) operational-loop.Post
+operational-loop-part-descriptor-loop-start t c = ?
+
+-- src/loops.rt:83:33
+operational-loop-part-descriptor-loop-end :
+    (t : ℕ) → operational-loop-lts.Need-part-descriptor-loop-end (
+      loop-size-reads.Asked,
+      loop-size-reads.Learnt,
+      descriptor-loop-reads.Asked,
+      descriptor-loop-reads.Learnt,
+      target-loop-below t,
+      target-loop.Post,
+    ) (operational-loop-at t) operational-loop.Post
+operational-loop-part-descriptor-loop-end t c = ?
+
+-- src/loops.rt:83:9
+operational-loop-descriptor-loop-requires :
+    (t : ℕ) → operational-loop-lts.Need-descriptor-loop-requires (
+      loop-size-reads.Asked,
+      loop-size-reads.Learnt,
+      descriptor-loop-reads.Asked,
+      descriptor-loop-reads.Learnt,
+      target-loop-below t,
+      target-loop.Post,
+    ) (operational-loop-at t) operational-loop.Post
+operational-loop-descriptor-loop-requires t c κs = ?
+
+-- src/loops.rt:85:9
+operational-loop-returns-2 : (t : ℕ) → operational-loop-lts.Need-returns-2 (
+  loop-size-reads.Asked,
+  loop-size-reads.Learnt,
+  descriptor-loop-reads.Asked,
+  descriptor-loop-reads.Learnt,
+  target-loop-below t,
+  target-loop.Post,
+) (operational-loop-at t) operational-loop.Post
+operational-loop-returns-2 t c = ?
+
+-- src/loops.rt:87:17
+operational-loop-sub-target-loop : (t : ℕ) → operational-loop-lts.Need-sub-target-loop (
+  loop-size-reads.Asked,
+  loop-size-reads.Learnt,
+  descriptor-loop-reads.Asked,
+  descriptor-loop-reads.Learnt,
+  target-loop-below t,
+  target-loop.Post,
+) (operational-loop-at t) operational-loop.Post
+operational-loop-sub-target-loop t c = ?
+
+-- src/loops.rt:87:17
+operational-loop-part-target-loop-start :
+    (t : ℕ) → operational-loop-lts.Need-part-target-loop-start (
+      loop-size-reads.Asked,
+      loop-size-reads.Learnt,
+      descriptor-loop-reads.Asked,
+      descriptor-loop-reads.Learnt,
+      target-loop-below t,
+      target-loop.Post,
+    ) (operational-loop-at t) operational-loop.Post
+operational-loop-part-target-loop-start t c = ?
+
+-- src/loops.rt:87:17
+operational-loop-part-target-loop-end : (t : ℕ) → operational-loop-lts.Need-part-target-loop-end (
+  loop-size-reads.Asked,
+  loop-size-reads.Learnt,
+  descriptor-loop-reads.Asked,
+  descriptor-loop-reads.Learnt,
+  target-loop-below t,
+  target-loop.Post,
+) (operational-loop-at t) operational-loop.Post
+operational-loop-part-target-loop-end t c = ?
+
+-- src/loops.rt:87:5
+operational-loop-target-loop-requires : (t : ℕ) → operational-loop-lts.Need-target-loop-requires (
+  loop-size-reads.Asked,
+  loop-size-reads.Learnt,
+  descriptor-loop-reads.Asked,
+  descriptor-loop-reads.Learnt,
+  target-loop-below t,
+  target-loop.Post,
+) (operational-loop-at t) operational-loop.Post
+operational-loop-target-loop-requires t c κs = ?
+
+-- src/loops.rt:76:1
+operational-loop-returns-3 : (t : ℕ) → operational-loop-lts.Need-returns-3 (
+  loop-size-reads.Asked,
+  loop-size-reads.Learnt,
+  descriptor-loop-reads.Asked,
+  descriptor-loop-reads.Learnt,
+  target-loop-below t,
+  target-loop.Post,
+) (operational-loop-at t) operational-loop.Post
+operational-loop-returns-3 t c = ?
+
+-- src/loops.rt:62:9
+target-loop-first-requires : (t : ℕ) → target-loop-lts.Need-first-requires (
+  first-reads.Asked,
+  first-reads.Learnt,
+  loop-size-reads.Asked,
+  loop-size-reads.Learnt,
+  descriptor-loop-reads.Asked,
+  descriptor-loop-reads.Learnt,
+  operational-loop-below t,
+  operational-loop.Post,
+) (target-loop-at t) target-loop.Post
+target-loop-first-requires t c κs = ?
+
+-- src/loops.rt:62:9
+target-loop-returns : (t : ℕ) → target-loop-lts.Need-returns (
+  first-reads.Asked,
+  first-reads.Learnt,
+  loop-size-reads.Asked,
+  loop-size-reads.Learnt,
+  descriptor-loop-reads.Asked,
+  descriptor-loop-reads.Learnt,
+  operational-loop-below t,
+  operational-loop.Post,
+) (target-loop-at t) target-loop.Post
+target-loop-returns t c = ?
+
+-- src/loops.rt:64:9
+target-loop-loop-size-requires : (t : ℕ) → target-loop-lts.Need-loop-size-requires (
+  first-reads.Asked,
+  first-reads.Learnt,
+  loop-size-reads.Asked,
+  loop-size-reads.Learnt,
+  descriptor-loop-reads.Asked,
+  descriptor-loop-reads.Learnt,
+  operational-loop-below t,
+  operational-loop.Post,
+) (target-loop-at t) target-loop.Post
+target-loop-loop-size-requires t c κs = ?
+
+-- src/loops.rt:66:9
+target-loop-returns-2 : (t : ℕ) → target-loop-lts.Need-returns-2 (
+  first-reads.Asked,
+  first-reads.Learnt,
+  loop-size-reads.Asked,
+  loop-size-reads.Learnt,
+  descriptor-loop-reads.Asked,
+  descriptor-loop-reads.Learnt,
+  operational-loop-below t,
+  operational-loop.Post,
+) (target-loop-at t) target-loop.Post
+target-loop-returns-2 t c = ?
+
+-- src/loops.rt:68:33
+target-loop-sub-descriptor-loop : (t : ℕ) → target-loop-lts.Need-sub-descriptor-loop (
+  first-reads.Asked,
+  first-reads.Learnt,
+  loop-size-reads.Asked,
+  loop-size-reads.Learnt,
+  descriptor-loop-reads.Asked,
+  descriptor-loop-reads.Learnt,
+  operational-loop-below t,
+  operational-loop.Post,
+) (target-loop-at t) target-loop.Post
+target-loop-sub-descriptor-loop t c = ?
+
+-- src/loops.rt:68:33
+target-loop-part-descriptor-loop-start : (t : ℕ) → target-loop-lts.Need-part-descriptor-loop-start (
+  first-reads.Asked,
+  first-reads.Learnt,
+  loop-size-reads.Asked,
+  loop-size-reads.Learnt,
+  descriptor-loop-reads.Asked,
+  descriptor-loop-reads.Learnt,
+  operational-loop-below t,
+  operational-loop.Post,
+) (target-loop-at t) target-loop.Post
+target-loop-part-descriptor-loop-start t c = ?
+
+-- src/loops.rt:68:33
+target-loop-part-descriptor-loop-end : (t : ℕ) → target-loop-lts.Need-part-descriptor-loop-end (
+  first-reads.Asked,
+  first-reads.Learnt,
+  loop-size-reads.Asked,
+  loop-size-reads.Learnt,
+  descriptor-loop-reads.Asked,
+  descriptor-loop-reads.Learnt,
+  operational-loop-below t,
+  operational-loop.Post,
+) (target-loop-at t) target-loop.Post
+target-loop-part-descriptor-loop-end t c = ?
+
+-- src/loops.rt:68:9
+target-loop-descriptor-loop-requires : (t : ℕ) → target-loop-lts.Need-descriptor-loop-requires (
+  first-reads.Asked,
+  first-reads.Learnt,
+  loop-size-reads.Asked,
+  loop-size-reads.Learnt,
+  descriptor-loop-reads.Asked,
+  descriptor-loop-reads.Learnt,
+  operational-loop-below t,
+  operational-loop.Post,
+) (target-loop-at t) target-loop.Post
+target-loop-descriptor-loop-requires t c κs = ?
+
+-- src/loops.rt:70:9
+target-loop-returns-3 : (t : ℕ) → target-loop-lts.Need-returns-3 (
+  first-reads.Asked,
+  first-reads.Learnt,
+  loop-size-reads.Asked,
+  loop-size-reads.Learnt,
+  descriptor-loop-reads.Asked,
+  descriptor-loop-reads.Learnt,
+  operational-loop-below t,
+  operational-loop.Post,
+) (target-loop-at t) target-loop.Post
+target-loop-returns-3 t c = ?
+
+-- src/loops.rt:72:22
+target-loop-sub-operational-loop : (t : ℕ) → target-loop-lts.Need-sub-operational-loop (
+  first-reads.Asked,
+  first-reads.Learnt,
+  loop-size-reads.Asked,
+  loop-size-reads.Learnt,
+  descriptor-loop-reads.Asked,
+  descriptor-loop-reads.Learnt,
+  operational-loop-below t,
+  operational-loop.Post,
+) (target-loop-at t) target-loop.Post
+target-loop-sub-operational-loop t c = ?
+
+-- src/loops.rt:72:22
+target-loop-part-operational-loop-start :
+    (t : ℕ) → target-loop-lts.Need-part-operational-loop-start (
+      first-reads.Asked,
+      first-reads.Learnt,
+      loop-size-reads.Asked,
+      loop-size-reads.Learnt,
+      descriptor-loop-reads.Asked,
+      descriptor-loop-reads.Learnt,
+      operational-loop-below t,
+      operational-loop.Post,
+    ) (target-loop-at t) target-loop.Post
+target-loop-part-operational-loop-start t c = ?
+
+-- src/loops.rt:72:22
+target-loop-part-operational-loop-end : (t : ℕ) → target-loop-lts.Need-part-operational-loop-end (
+  first-reads.Asked,
+  first-reads.Learnt,
+  loop-size-reads.Asked,
+  loop-size-reads.Learnt,
+  descriptor-loop-reads.Asked,
+  descriptor-loop-reads.Learnt,
+  operational-loop-below t,
+  operational-loop.Post,
+) (target-loop-at t) target-loop.Post
+target-loop-part-operational-loop-end t c = ?
+
+-- src/loops.rt:72:5
+target-loop-operational-loop-requires : (t : ℕ) → target-loop-lts.Need-operational-loop-requires (
+  first-reads.Asked,
+  first-reads.Learnt,
+  loop-size-reads.Asked,
+  loop-size-reads.Learnt,
+  descriptor-loop-reads.Asked,
+  descriptor-loop-reads.Learnt,
+  operational-loop-below t,
+  operational-loop.Post,
+) (target-loop-at t) target-loop.Post
+target-loop-operational-loop-requires t c κs = ?
+
+-- src/loops.rt:58:1
+target-loop-returns-4 : (t : ℕ) → target-loop-lts.Need-returns-4 (
+  first-reads.Asked,
+  first-reads.Learnt,
+  loop-size-reads.Asked,
+  loop-size-reads.Learnt,
+  descriptor-loop-reads.Asked,
+  descriptor-loop-reads.Learnt,
+  operational-loop-below t,
+  operational-loop.Post,
+) (target-loop-at t) target-loop.Post
+target-loop-returns-4 t c = ?
+
+pub +operational-loop+target-loop-spec : {M : Type 1} → statement M
++operational-loop+target-loop-spec =
+    close μ-operational-loop μ-target-loop (λ t. operational-loop-lts.spec (
+      loop-size-reads.Asked,
+      loop-size-reads.Learnt,
+      descriptor-loop-reads.Asked,
+      descriptor-loop-reads.Learnt,
+      target-loop-below t,
+      target-loop.Post,
+    )
+    (operational-loop-at t)
+    operational-loop.Post
+    (operational-loop-loop-size-requires t)
+    (operational-loop-returns t)
+    (operational-loop-sub-descriptor-loop t)
+    (operational-loop-part-descriptor-loop-start t)
+    (operational-loop-part-descriptor-loop-end t)
+    (operational-loop-descriptor-loop-requires t)
+    (operational-loop-returns-2 t)
+    (operational-loop-sub-target-loop t)
+    (operational-loop-part-target-loop-start t)
+    (operational-loop-part-target-loop-end t)
+    (operational-loop-target-loop-requires t)
+    (operational-loop-returns-3 t))
+    λ t. target-loop-lts.spec (
+      first-reads.Asked,
+      first-reads.Learnt,
+      loop-size-reads.Asked,
+      loop-size-reads.Learnt,
+      descriptor-loop-reads.Asked,
+      descriptor-loop-reads.Learnt,
+      operational-loop-below t,
+      operational-loop.Post,
+    )
+    (target-loop-at t)
+    target-loop.Post
+    (target-loop-first-requires t)
+    (target-loop-returns t)
+    (target-loop-loop-size-requires t)
+    (target-loop-returns-2 t)
+    (target-loop-sub-descriptor-loop t)
+    (target-loop-part-descriptor-loop-start t)
+    (target-loop-part-descriptor-loop-end t)
+    (target-loop-descriptor-loop-requires t)
+    (target-loop-returns-3 t)
+    (target-loop-sub-operational-loop t)
+    (target-loop-part-operational-loop-start t)
+    (target-loop-part-operational-loop-end t)
+    (target-loop-operational-loop-requires t)
+    (target-loop-returns-4 t)

@@ -1,0 +1,21 @@
+use borrow.Author.Needs.{needs}
+use Rattle.notification.proofs.loops.loop_size.Statement.{statement}
+use Rattle.notification.proofs.loops.loop_size.Tie as tie
+use Rattle.notification.proofs.loops.loop_size.Reads as reads
+use Rattle.notification.proofs.loops.loop_size.Lts as lts
+use Rattle.wire.proofs.u16_at.Reads as u16-at-reads
+
+-- src/loops.rt:16:9
+u16-at-requires : tie.Need-u16-at-requires
+u16-at-requires c κs = search needs
+
+-- src/loops.rt:16:5
+add-result : tie.Need-add-result
+add-result c = search needs
+
+-- src/loops.rt:13:1
+returns : tie.Need-returns
+returns c = ?
+
+pub loop-size-spec : {M : Type 1} → statement M
+loop-size-spec = tie.close (tie.spec u16-at-requires add-result returns)

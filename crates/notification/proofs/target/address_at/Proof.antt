@@ -1,0 +1,35 @@
+use borrow.Author.Needs.{needs}
+use Rattle.notification.proofs.target.address_at.Statement.{statement}
+use Rattle.notification.proofs.target.address_at.Tie as tie
+use Rattle.notification.proofs.target.address_at.Reads as reads
+use Rattle.notification.proofs.target.address_at.Lts as lts
+use Rattle.wire.proofs.u16_at.Reads as u16-at-reads
+use Rattle.wire.proofs.u32_at.Reads as u32-at-reads
+
+-- src/target.rt:16:5
+u16-at-requires : tie.Need-u16-at-requires
+u16-at-requires c κs = search needs
+
+-- src/target.rt:16:5
+mul-result : tie.Need-mul-result
+mul-result c = search needs
+
+-- src/target.rt:16:55
+add-u32-at : tie.Need-add-u32-at
+add-u32-at c = search needs
+
+-- src/target.rt:16:39
+u32-at-requires : tie.Need-u32-at-requires
+u32-at-requires c κs = search needs
+
+-- src/target.rt:16:5
+add-result : tie.Need-add-result
+add-result c = search needs
+
+-- src/target.rt:12:1
+returns : tie.Need-returns
+returns c = ?
+
+pub address-at-spec : {M : Type 1} → statement M
+address-at-spec =
+    tie.close (tie.spec u16-at-requires mul-result add-u32-at u32-at-requires add-result returns)

@@ -1,0 +1,47 @@
+use borrow.Author.Needs.{needs}
+use Rattle.notification.proofs.target.entry_bytes.Statement.{statement}
+use Rattle.notification.proofs.target.entry_bytes.Tie as tie
+use Rattle.notification.proofs.target.entry_bytes.Reads as reads
+use Rattle.notification.proofs.target.entry_bytes.Lts as lts
+use Rattle.notification.proofs.loops.behind.Reads as behind-reads
+use Rattle.wire.proofs.byte_at.Reads as byte-at-reads
+
+-- src/target.rt:55:9
+byte-at-requires : tie.Need-byte-at-requires
+byte-at-requires c κs = search needs
+
+-- src/target.rt:57:9
+behind-requires : tie.Need-behind-requires
+behind-requires c κs = search needs
+
+-- src/target.rt:57:9
+returns : tie.Need-returns
+returns c = ?
+
+-- src/target.rt:60:9
+behind-requires-2 : tie.Need-behind-requires-2
+behind-requires-2 c κs = search needs
+
+-- src/target.rt:60:9
+returns-2 : tie.Need-returns-2
+returns-2 c = ?
+
+-- src/target.rt:62:5
+slice-aggregate-result : tie.Need-slice-aggregate-result
+slice-aggregate-result c = search needs
+
+-- src/target.rt:52:1
+returns-3 : tie.Need-returns-3
+returns-3 c = ?
+
+pub entry-bytes-spec : {M : Type 1} → statement M
+entry-bytes-spec =
+    tie.close
+    (tie.spec
+    byte-at-requires
+    behind-requires
+    returns
+    behind-requires-2
+    returns-2
+    slice-aggregate-result
+    returns-3)

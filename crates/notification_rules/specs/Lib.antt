@@ -1,0 +1,4 @@
+pub mod Cut
+pub mod Loop
+pub mod Target
+pub mod Notice
