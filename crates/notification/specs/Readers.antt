@@ -39,7 +39,7 @@ pub record Holds (s : RefT (List ℕ)) (o : ℕ) (r : RefT (List ℕ)) : Type 0 
 -- ---- the located descriptor of a loop, tag and length with it, or nothing
 abbrev pub Located : ℕ × ℕ → Location → RefT (List ℕ) → Type 0
 Located start nowhere r = now r ≡ []
-Located start (at d) r = Is start d r
+Located start (at d) r = Is start d r × (2 ≤ length (now r))
 
 -- r is the first 0x13 of the loop s, wherever in a section the loop stands
 abbrev pub Locates : RefT (List ℕ) → RefT (List ℕ) → Type 0

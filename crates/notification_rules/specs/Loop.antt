@@ -24,8 +24,8 @@ unfoldable pub descriptorSize : Size
 descriptorSize s = 2 + byteAt s 1
 
 -- the bytes that the CRC_32 is of
-abbrev pub covered : List ℕ → List ℕ
-covered s = take (crcPlace s) s
+abbrev pub checked : List ℕ → List ℕ
+checked s = take (crcPlace s) s
 
 -- where the platform loop begins
 abbrev pub platformPlace : ℕ
@@ -33,7 +33,7 @@ platformPlace = 12
 
 -- from the platform loop up to the CRC_32, cut into loops
 unfoldable pub loopCut : List ℕ → Cut
-loopCut s = cutOf loopSize (drop platformPlace (covered s))
+loopCut s = cutOf loopSize (drop platformPlace (checked s))
 
 -- the loops, each at its place
 unfoldable pub loopsOf : List ℕ → List Part

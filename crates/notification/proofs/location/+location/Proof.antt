@@ -1,3 +1,14 @@
+-- The descriptor at the front is a 0x13, or the first one of the rest is it, which stands as many bytes later.
+use Rattle.notification_rules.proofs.Pieces.{descriptor-two}
+use Rattle.notification_rules.proofs.Cuts.{from}
+use lib.Seq.{length-take-le}
+use Rattle.wire.proofs.Choice.{was}
+use Rattle.notification.proofs.Locations.{found-stop, found-here, found-more}
+use denote.Ref.{now}
+use mathlib.Core.Path.{_≡_, refl, sym, ap, _∙_}
+use lib.ListN.{length, take, drop, length-drop}
+use native.Mathlib.Omega.{arith}
+use borrow.Author.Needs.{needs}
 use Prim.Native.Nat.{ℕ, _<_}
 use borrow.Fn.Kinds.{In}
 use borrow.Fn.PlainCycle.{Measures, is, falls, and}
@@ -10,7 +21,7 @@ use Rattle.notification.proofs.location.+location.{statement}
 use Rattle.notification.proofs.location.+location.Tie.{close}
 
 abbrev μ-location : Measures 1 location-kinds.ps ℕ
-μ-location κs a = ?
+μ-location κs a = length (a .0 .now)
 
 abbrev location-at : ℕ → In 1 location-kinds.ps
 location-at t = and 1 location-kinds.ps (is 1 location-kinds.ps μ-location t) location.Pre
@@ -28,7 +39,7 @@ location-descriptor-size-requires : (t : ℕ) → location-lts.Need-descriptor-s
   location-below t,
   location.Post,
 ) (location-at t) location.Post
-location-descriptor-size-requires t c κs = ?
+location-descriptor-size-requires t c κs = search needs
 
 -- src/location.rt:13:9
 location-slice-aggregate-result : (t : ℕ) → location-lts.Need-slice-aggregate-result (
@@ -39,7 +50,7 @@ location-slice-aggregate-result : (t : ℕ) → location-lts.Need-slice-aggregat
   location-below t,
   location.Post,
 ) (location-at t) location.Post
-location-slice-aggregate-result t c = ?
+location-slice-aggregate-result t c = search needs
 
 -- src/location.rt:13:9
 location-returns : (t : ℕ) → location-lts.Need-returns (
@@ -50,7 +61,7 @@ location-returns : (t : ℕ) → location-lts.Need-returns (
   location-below t,
   location.Post,
 ) (location-at t) location.Post
-location-returns t c = ?
+location-returns t c = λ start o i. found-stop start o _ (now (c .before .before .before .before .args .s)) _ (c .before .before .descriptor-size .ensures .is) (c .before .if1 .taken) refl
 
 -- src/location.rt:15:8
 location-byte-at-requires : (t : ℕ) → location-lts.Need-byte-at-requires (
@@ -61,7 +72,7 @@ location-byte-at-requires : (t : ℕ) → location-lts.Need-byte-at-requires (
   location-below t,
   location.Post,
 ) (location-at t) location.Post
-location-byte-at-requires t c κs = ?
+location-byte-at-requires t c κs = search needs
 
 -- src/location.rt:16:9
 location-slice-aggregate-result-2 : (t : ℕ) → location-lts.Need-slice-aggregate-result-2 (
@@ -72,7 +83,7 @@ location-slice-aggregate-result-2 : (t : ℕ) → location-lts.Need-slice-aggreg
   location-below t,
   location.Post,
 ) (location-at t) location.Post
-location-slice-aggregate-result-2 t c = ?
+location-slice-aggregate-result-2 t c = sym (length-take-le _ (now (c .before .before .before .before .before .before .args .s)) (omega arith))
 
 -- src/location.rt:16:9
 location-returns-2 : (t : ℕ) → location-lts.Need-returns-2 (
@@ -83,7 +94,9 @@ location-returns-2 : (t : ℕ) → location-lts.Need-returns-2 (
   location-below t,
   location.Post,
 ) (location-at t) location.Post
-location-returns-2 t c = ?
+location-returns-2 t c =     λ start o i. found-here start o _ (now (c .before .before .before .before .before .before .args .s)) _ (c .before .before .before .before .descriptor-size .ensures .is) (omega arith)
+    (was (c .before .before .byte-at .ensures .is) (c .before .if2 .taken))
+    (record { bytes = refl; block = i .block; place = i .place })
 
 -- src/location.rt:18:14
 location-sub-location : (t : ℕ) → location-lts.Need-sub-location (
@@ -94,7 +107,7 @@ location-sub-location : (t : ℕ) → location-lts.Need-sub-location (
   location-below t,
   location.Post,
 ) (location-at t) location.Post
-location-sub-location t c = ?
+location-sub-location t c = search needs
 
 -- src/location.rt:18:14
 location-part-location-start : (t : ℕ) → location-lts.Need-part-location-start (
@@ -105,7 +118,7 @@ location-part-location-start : (t : ℕ) → location-lts.Need-part-location-sta
   location-below t,
   location.Post,
 ) (location-at t) location.Post
-location-part-location-start t c = ?
+location-part-location-start t c = search needs
 
 -- src/location.rt:18:14
 location-part-location-end : (t : ℕ) → location-lts.Need-part-location-end (
@@ -116,7 +129,7 @@ location-part-location-end : (t : ℕ) → location-lts.Need-part-location-end (
   location-below t,
   location.Post,
 ) (location-at t) location.Post
-location-part-location-end t c = ?
+location-part-location-end t c = search needs
 
 -- src/location.rt:18:5
 location-location-requires : (t : ℕ) → location-lts.Need-location-requires (
@@ -127,7 +140,7 @@ location-location-requires : (t : ℕ) → location-lts.Need-location-requires (
   location-below t,
   location.Post,
 ) (location-at t) location.Post
-location-location-requires t c κs = ?
+location-location-requires t c κs = (rw from (simp length-drop (omega (arith, descriptor-two (now (c .before .before .before .before .before .before .args .s)), c .before .before .before .before .descriptor-size .ensures .is))), tt)
 
 -- src/location.rt:8:1
 location-returns-3 : (t : ℕ) → location-lts.Need-returns-3 (
@@ -138,7 +151,9 @@ location-returns-3 : (t : ℕ) → location-lts.Need-returns-3 (
   location-below t,
   location.Post,
 ) (location-at t) location.Post
-location-returns-3 t c = ?
+location-returns-3 t c =     λ start o i. found-more start o _ (now (c .before .before .before .before .before .before .before .args .s)) _ (c .before .before .before .before .before .descriptor-size .ensures .is) (omega arith)
+    (λ z. c .before .before .if2 .left (c .before .before .before .byte-at .ensures .is ∙ z))
+    (c .location .ensures start _ (record { bytes = refl; block = i .block; place = omega (arith, i .place) }))
 
 pub +location-spec : {M : Type 1} → statement M
 +location-spec = close μ-location λ t. location-lts.spec (

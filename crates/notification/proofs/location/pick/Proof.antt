@@ -1,3 +1,5 @@
+-- The operational loop goes first; the body stands two bytes behind the tag.
+use Rattle.notification.proofs.Locations.{picked-own, picked-other}
 use borrow.Author.Needs.{needs}
 use Rattle.notification.proofs.location.pick.Statement.{statement}
 use Rattle.notification.proofs.location.pick.Tie as tie
@@ -16,7 +18,7 @@ behind-requires c κs = search needs
 
 -- src/location.rt:27:9
 returns : tie.Need-returns
-returns c = ?
+returns c = λ start o p i j. picked-own start _ _ (c .behind .ensures) _ _ (c .before .before .location .ensures start o i) (c .before .if1 .taken)
 
 -- src/location.rt:29:12
 location-requires-2 : tie.Need-location-requires-2
@@ -28,7 +30,8 @@ behind-requires-2 c κs = search needs
 
 -- src/location.rt:22:1
 returns-2 : tie.Need-returns-2
-returns-2 c = ?
+returns-2 c =     λ start o p i j. picked-other start _ _ (c .behind2 .ensures) _ _ _ (c .before .before .before .location .ensures start o i) (c .before .before .if1 .left)
+    (c .before .location2 .ensures start p j)
 
 pub pick-spec : {M : Type 1} → statement M
 pick-spec =

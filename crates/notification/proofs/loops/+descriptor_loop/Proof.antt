@@ -1,3 +1,12 @@
+-- The descriptor at the front, and the rest, which is shorter by at least two bytes.
+use Rattle.notification_rules.proofs.Pieces.{descriptor-two}
+use Rattle.notification_rules.proofs.Cuts.{from}
+use Rattle.notification.proofs.Faults.{fault-end, fault-stop, fault-more}
+use denote.Ref.{now}
+use mathlib.Core.Path.{_≡_, refl, sym, ap, _∙_}
+use lib.ListN.{length, take, drop, length-drop}
+use native.Mathlib.Omega.{arith}
+use borrow.Author.Needs.{needs}
 use Prim.Native.Nat.{ℕ, _<_}
 use borrow.Fn.Kinds.{In}
 use borrow.Fn.PlainCycle.{Measures, is, falls, and}
@@ -13,7 +22,7 @@ use Rattle.notification.proofs.loops.+descriptor_loop.{statement}
 use Rattle.notification.proofs.loops.+descriptor_loop.Tie.{close}
 
 abbrev μ-descriptor-loop : Measures 1 descriptor-loop-kinds.ps ℕ
-μ-descriptor-loop κs a = ?
+μ-descriptor-loop κs a = length (a .0 .now)
 
 abbrev descriptor-loop-at : ℕ → In 1 descriptor-loop-kinds.ps
 descriptor-loop-at t =
@@ -46,7 +55,7 @@ descriptor-loop-first-requires : (t : ℕ) → descriptor-loop-lts.Need-first-re
   descriptor-loop-below t,
   descriptor-loop.Post,
 ) (descriptor-loop-at t) descriptor-loop.Post
-descriptor-loop-first-requires t c κs = ?
+descriptor-loop-first-requires t c κs = search needs
 
 -- src/loops.rt:47:9
 descriptor-loop-returns : (t : ℕ) → descriptor-loop-lts.Need-returns (
@@ -63,7 +72,7 @@ descriptor-loop-returns : (t : ℕ) → descriptor-loop-lts.Need-returns (
   descriptor-loop-below t,
   descriptor-loop.Post,
 ) (descriptor-loop-at t) descriptor-loop.Post
-descriptor-loop-returns t c = ?
+descriptor-loop-returns t c = c .first .ensures ∙ fault-end (now (c .before .before .before .args .s)) (c .before .before .before .args .other) (c .before .if1 .taken)
 
 -- src/loops.rt:49:9
 descriptor-loop-descriptor-size-requires :
@@ -81,7 +90,7 @@ descriptor-loop-descriptor-size-requires :
       descriptor-loop-below t,
       descriptor-loop.Post,
     ) (descriptor-loop-at t) descriptor-loop.Post
-descriptor-loop-descriptor-size-requires t c κs = ?
+descriptor-loop-descriptor-size-requires t c κs = search needs
 
 -- src/loops.rt:51:9
 descriptor-loop-returns-2 : (t : ℕ) → descriptor-loop-lts.Need-returns-2 (
@@ -98,7 +107,8 @@ descriptor-loop-returns-2 : (t : ℕ) → descriptor-loop-lts.Need-returns-2 (
   descriptor-loop-below t,
   descriptor-loop.Post,
 ) (descriptor-loop-at t) descriptor-loop.Post
-descriptor-loop-returns-2 t c = ?
+descriptor-loop-returns-2 t c =     let a = c .before .before .before .before .args in
+    fault-stop (now (a .s)) (a .other) _ (c .before .descriptor-size .ensures .is) (c .before .before .if1 .left) (c .if2 .taken)
 
 -- src/loops.rt:53:30
 descriptor-loop-byte-at-requires : (t : ℕ) → descriptor-loop-lts.Need-byte-at-requires (
@@ -115,7 +125,7 @@ descriptor-loop-byte-at-requires : (t : ℕ) → descriptor-loop-lts.Need-byte-a
   descriptor-loop-below t,
   descriptor-loop.Post,
 ) (descriptor-loop-at t) descriptor-loop.Post
-descriptor-loop-byte-at-requires t c κs = ?
+descriptor-loop-byte-at-requires t c κs = search needs
 
 -- src/loops.rt:53:45
 descriptor-loop-byte-at-requires-2 : (t : ℕ) → descriptor-loop-lts.Need-byte-at-requires-2 (
@@ -132,7 +142,7 @@ descriptor-loop-byte-at-requires-2 : (t : ℕ) → descriptor-loop-lts.Need-byte
   descriptor-loop-below t,
   descriptor-loop.Post,
 ) (descriptor-loop-at t) descriptor-loop.Post
-descriptor-loop-byte-at-requires-2 t c κs = ?
+descriptor-loop-byte-at-requires-2 t c κs = search needs
 
 -- src/loops.rt:53:9
 descriptor-loop-right-length-requires : (t : ℕ) → descriptor-loop-lts.Need-right-length-requires (
@@ -149,7 +159,7 @@ descriptor-loop-right-length-requires : (t : ℕ) → descriptor-loop-lts.Need-r
   descriptor-loop-below t,
   descriptor-loop.Post,
 ) (descriptor-loop-at t) descriptor-loop.Post
-descriptor-loop-right-length-requires t c κs = ?
+descriptor-loop-right-length-requires t c κs = search needs
 
 -- src/loops.rt:54:21
 descriptor-loop-sub-descriptor-loop : (t : ℕ) → descriptor-loop-lts.Need-sub-descriptor-loop (
@@ -166,7 +176,7 @@ descriptor-loop-sub-descriptor-loop : (t : ℕ) → descriptor-loop-lts.Need-sub
   descriptor-loop-below t,
   descriptor-loop.Post,
 ) (descriptor-loop-at t) descriptor-loop.Post
-descriptor-loop-sub-descriptor-loop t c = ?
+descriptor-loop-sub-descriptor-loop t c = search needs
 
 -- src/loops.rt:54:21
 descriptor-loop-part-descriptor-loop-start :
@@ -184,7 +194,7 @@ descriptor-loop-part-descriptor-loop-start :
       descriptor-loop-below t,
       descriptor-loop.Post,
     ) (descriptor-loop-at t) descriptor-loop.Post
-descriptor-loop-part-descriptor-loop-start t c = ?
+descriptor-loop-part-descriptor-loop-start t c = search needs
 
 -- src/loops.rt:54:21
 descriptor-loop-part-descriptor-loop-end :
@@ -202,7 +212,7 @@ descriptor-loop-part-descriptor-loop-end :
       descriptor-loop-below t,
       descriptor-loop.Post,
     ) (descriptor-loop-at t) descriptor-loop.Post
-descriptor-loop-part-descriptor-loop-end t c = ?
+descriptor-loop-part-descriptor-loop-end t c = search needs
 
 -- src/loops.rt:54:33
 descriptor-loop-either-requires : (t : ℕ) → descriptor-loop-lts.Need-either-requires (
@@ -219,7 +229,7 @@ descriptor-loop-either-requires : (t : ℕ) → descriptor-loop-lts.Need-either-
   descriptor-loop-below t,
   descriptor-loop.Post,
 ) (descriptor-loop-at t) descriptor-loop.Post
-descriptor-loop-either-requires t c κs = ?
+descriptor-loop-either-requires t c κs = search needs
 
 -- src/loops.rt:54:5
 descriptor-loop-descriptor-loop-requires :
@@ -237,7 +247,8 @@ descriptor-loop-descriptor-loop-requires :
       descriptor-loop-below t,
       descriptor-loop.Post,
     ) (descriptor-loop-at t) descriptor-loop.Post
-descriptor-loop-descriptor-loop-requires t c κs = ?
+descriptor-loop-descriptor-loop-requires t c κs =     let s = now (c .before .before .before .before .before .before .before .before .before .args .s) in
+    (rw from (simp length-drop (omega (arith, descriptor-two s, c .before .before .before .before .before .before .descriptor-size .ensures .is))), tt)
 
 -- src/loops.rt:43:1
 descriptor-loop-returns-3 : (t : ℕ) → descriptor-loop-lts.Need-returns-3 (
@@ -254,7 +265,10 @@ descriptor-loop-returns-3 : (t : ℕ) → descriptor-loop-lts.Need-returns-3 (
   descriptor-loop-below t,
   descriptor-loop.Post,
 ) (descriptor-loop-at t) descriptor-loop.Post
-descriptor-loop-returns-3 t c = ?
+descriptor-loop-returns-3 t c =     let a = c .before .before .before .before .before .before .before .before .before .before .args in
+    c .descriptor-loop .ensures
+    ∙ fault-more (now (a .s)) (a .other) _ _ (c .before .before .before .before .before .before .before .descriptor-size .ensures .is) (omega arith)
+    (c .before .either .ensures ∙ rw (c .before .before .before .right-length .ensures, c .before .before .before .before .byte-at2 .ensures .is, c .before .before .before .before .before .byte-at .ensures .is))
 
 pub +descriptor-loop-spec : {M : Type 1} → statement M
 +descriptor-loop-spec = close μ-descriptor-loop λ t. descriptor-loop-lts.spec (

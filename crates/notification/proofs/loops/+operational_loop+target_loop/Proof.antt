@@ -1,3 +1,13 @@
+-- The loop at the front, and the rest, which is shorter by at least two bytes.
+use Rattle.notification_rules.proofs.Pieces.{loop-two}
+use Rattle.notification_rules.proofs.Cuts.{from}
+use Rattle.notification.proofs.Faults.{loops-end, loops-short, loops-missing, loops-bad, loops-on}
+use mathlib.Core.Bool.{true, false}
+use denote.Ref.{now}
+use mathlib.Core.Path.{_≡_, refl, sym, ap, _∙_}
+use lib.ListN.{length, take, drop, length-drop}
+use native.Mathlib.Omega.{arith}
+use borrow.Author.Needs.{needs}
 use Prim.Native.Nat.{ℕ, _<_}
 use borrow.Fn.Kinds.{In}
 use borrow.Fn.PlainCycle.{Measures, is, falls, and}
@@ -14,10 +24,10 @@ use Rattle.notification.proofs.loops.+operational_loop+target_loop.{sta
 use Rattle.notification.proofs.loops.+operational_loop+target_loop.Tie.{close}
 
 abbrev μ-operational-loop : Measures 1 operational-loop-kinds.ps ℕ
-μ-operational-loop κs a = ?
+μ-operational-loop κs a = length (a .0 .now)
 
 abbrev μ-target-loop : Measures 1 target-loop-kinds.ps ℕ
-μ-target-loop κs a = ?
+μ-target-loop κs a = length (a .0 .now)
 
 abbrev operational-loop-at : ℕ → In 1 operational-loop-kinds.ps
 operational-loop-at t =
@@ -52,7 +62,7 @@ operational-loop-loop-size-requires : (t : ℕ) → operational-loop-lts.Need-lo
   target-loop-below t,
   target-loop.Post,
 ) (operational-loop-at t) operational-loop.Post
-operational-loop-loop-size-requires t c κs = ?
+operational-loop-loop-size-requires t c κs = search needs
 
 -- src/loops.rt:81:9
 operational-loop-returns : (t : ℕ) → operational-loop-lts.Need-returns (
@@ -63,7 +73,8 @@ operational-loop-returns : (t : ℕ) → operational-loop-lts.Need-returns (
   target-loop-below t,
   target-loop.Post,
 ) (operational-loop-at t) operational-loop.Post
-operational-loop-returns t c = ?
+operational-loop-returns t c =     let a = c .before .before .before .args in
+    loops-missing (now (a .s)) (a .other) _ (c .before .loop-size .ensures .is) (c .if1 .taken)
 
 -- src/loops.rt:83:33
 operational-loop-sub-descriptor-loop : (t : ℕ) → operational-loop-lts.Need-sub-descriptor-loop (
@@ -74,7 +85,7 @@ operational-loop-sub-descriptor-loop : (t : ℕ) → operational-loop-lts.Need-s
   target-loop-below t,
   target-loop.Post,
 ) (operational-loop-at t) operational-loop.Post
-operational-loop-sub-descriptor-loop t c = ?
+operational-loop-sub-descriptor-loop t c = omega (arith, loop-two (now (c .before .before .before .args .s)), c .before .loop-size .ensures .is)
 
 -- src/loops.rt:83:33
 operational-loop-part-descriptor-loop-start :
@@ -86,7 +97,7 @@ operational-loop-part-descriptor-loop-start :
       target-loop-below t,
       target-loop.Post,
     ) (operational-loop-at t) operational-loop.Post
-operational-loop-part-descriptor-loop-start t c = ?
+operational-loop-part-descriptor-loop-start t c = omega (arith, loop-two (now (c .before .before .before .args .s)), c .before .loop-size .ensures .is)
 
 -- src/loops.rt:83:33
 operational-loop-part-descriptor-loop-end :
@@ -98,7 +109,7 @@ operational-loop-part-descriptor-loop-end :
       target-loop-below t,
       target-loop.Post,
     ) (operational-loop-at t) operational-loop.Post
-operational-loop-part-descriptor-loop-end t c = ?
+operational-loop-part-descriptor-loop-end t c = search needs
 
 -- src/loops.rt:83:9
 operational-loop-descriptor-loop-requires :
@@ -110,7 +121,7 @@ operational-loop-descriptor-loop-requires :
       target-loop-below t,
       target-loop.Post,
     ) (operational-loop-at t) operational-loop.Post
-operational-loop-descriptor-loop-requires t c κs = ?
+operational-loop-descriptor-loop-requires t c κs = search needs
 
 -- src/loops.rt:85:9
 operational-loop-returns-2 : (t : ℕ) → operational-loop-lts.Need-returns-2 (
@@ -121,7 +132,8 @@ operational-loop-returns-2 : (t : ℕ) → operational-loop-lts.Need-returns-2 (
   target-loop-below t,
   target-loop.Post,
 ) (operational-loop-at t) operational-loop.Post
-operational-loop-returns-2 t c = ?
+operational-loop-returns-2 t c =     let a = c .before .before .before .before .before .before .args in
+    loops-bad true (now (a .s)) (a .other) _ _ (c .before .before .before .before .loop-size .ensures .is) (omega arith) (c .before .descriptor-loop .ensures) (c .if2 .taken)
 
 -- src/loops.rt:87:17
 operational-loop-sub-target-loop : (t : ℕ) → operational-loop-lts.Need-sub-target-loop (
@@ -132,7 +144,7 @@ operational-loop-sub-target-loop : (t : ℕ) → operational-loop-lts.Need-sub-t
   target-loop-below t,
   target-loop.Post,
 ) (operational-loop-at t) operational-loop.Post
-operational-loop-sub-target-loop t c = ?
+operational-loop-sub-target-loop t c = search needs
 
 -- src/loops.rt:87:17
 operational-loop-part-target-loop-start :
@@ -144,7 +156,7 @@ operational-loop-part-target-loop-start :
       target-loop-below t,
       target-loop.Post,
     ) (operational-loop-at t) operational-loop.Post
-operational-loop-part-target-loop-start t c = ?
+operational-loop-part-target-loop-start t c = search needs
 
 -- src/loops.rt:87:17
 operational-loop-part-target-loop-end : (t : ℕ) → operational-loop-lts.Need-part-target-loop-end (
@@ -155,7 +167,7 @@ operational-loop-part-target-loop-end : (t : ℕ) → operational-loop-lts.Need-
   target-loop-below t,
   target-loop.Post,
 ) (operational-loop-at t) operational-loop.Post
-operational-loop-part-target-loop-end t c = ?
+operational-loop-part-target-loop-end t c = search needs
 
 -- src/loops.rt:87:5
 operational-loop-target-loop-requires : (t : ℕ) → operational-loop-lts.Need-target-loop-requires (
@@ -166,7 +178,7 @@ operational-loop-target-loop-requires : (t : ℕ) → operational-loop-lts.Need-
   target-loop-below t,
   target-loop.Post,
 ) (operational-loop-at t) operational-loop.Post
-operational-loop-target-loop-requires t c κs = ?
+operational-loop-target-loop-requires t c κs = (rw from (simp length-drop (omega (arith, loop-two (now (c .before .before .before .before .before .before .before .args .s)), c .before .before .before .before .before .loop-size .ensures .is))), tt)
 
 -- src/loops.rt:76:1
 operational-loop-returns-3 : (t : ℕ) → operational-loop-lts.Need-returns-3 (
@@ -177,7 +189,9 @@ operational-loop-returns-3 : (t : ℕ) → operational-loop-lts.Need-returns-3 (
   target-loop-below t,
   target-loop.Post,
 ) (operational-loop-at t) operational-loop.Post
-operational-loop-returns-3 t c = ?
+operational-loop-returns-3 t c =     let a = c .before .before .before .before .before .before .before .before .args in
+    c .target-loop .ensures
+    ∙ loops-on true (now (a .s)) (a .other) _ _ (c .before .before .before .before .before .before .loop-size .ensures .is) (omega arith) (c .before .before .before .descriptor-loop .ensures) (c .before .before .if2 .left)
 
 -- src/loops.rt:62:9
 target-loop-first-requires : (t : ℕ) → target-loop-lts.Need-first-requires (
@@ -190,7 +204,7 @@ target-loop-first-requires : (t : ℕ) → target-loop-lts.Need-first-requires (
   operational-loop-below t,
   operational-loop.Post,
 ) (target-loop-at t) target-loop.Post
-target-loop-first-requires t c κs = ?
+target-loop-first-requires t c κs = search needs
 
 -- src/loops.rt:62:9
 target-loop-returns : (t : ℕ) → target-loop-lts.Need-returns (
@@ -203,7 +217,7 @@ target-loop-returns : (t : ℕ) → target-loop-lts.Need-returns (
   operational-loop-below t,
   operational-loop.Post,
 ) (target-loop-at t) target-loop.Post
-target-loop-returns t c = ?
+target-loop-returns t c = c .first .ensures ∙ loops-end (now (c .before .before .before .args .s)) (c .before .before .before .args .other) (c .before .if1 .taken)
 
 -- src/loops.rt:64:9
 target-loop-loop-size-requires : (t : ℕ) → target-loop-lts.Need-loop-size-requires (
@@ -216,7 +230,7 @@ target-loop-loop-size-requires : (t : ℕ) → target-loop-lts.Need-loop-size-re
   operational-loop-below t,
   operational-loop.Post,
 ) (target-loop-at t) target-loop.Post
-target-loop-loop-size-requires t c κs = ?
+target-loop-loop-size-requires t c κs = search needs
 
 -- src/loops.rt:66:9
 target-loop-returns-2 : (t : ℕ) → target-loop-lts.Need-returns-2 (
@@ -229,7 +243,8 @@ target-loop-returns-2 : (t : ℕ) → target-loop-lts.Need-returns-2 (
   operational-loop-below t,
   operational-loop.Post,
 ) (target-loop-at t) target-loop.Post
-target-loop-returns-2 t c = ?
+target-loop-returns-2 t c =     let a = c .before .before .before .before .args in
+    loops-short (now (a .s)) (a .other) _ (c .before .loop-size .ensures .is) (c .before .before .if1 .left) (c .if2 .taken)
 
 -- src/loops.rt:68:33
 target-loop-sub-descriptor-loop : (t : ℕ) → target-loop-lts.Need-sub-descriptor-loop (
@@ -242,7 +257,7 @@ target-loop-sub-descriptor-loop : (t : ℕ) → target-loop-lts.Need-sub-descrip
   operational-loop-below t,
   operational-loop.Post,
 ) (target-loop-at t) target-loop.Post
-target-loop-sub-descriptor-loop t c = ?
+target-loop-sub-descriptor-loop t c = omega (arith, loop-two (now (c .before .before .before .before .args .s)), c .before .loop-size .ensures .is)
 
 -- src/loops.rt:68:33
 target-loop-part-descriptor-loop-start : (t : ℕ) → target-loop-lts.Need-part-descriptor-loop-start (
@@ -255,7 +270,7 @@ target-loop-part-descriptor-loop-start : (t : ℕ) → target-loop-lts.Need-part
   operational-loop-below t,
   operational-loop.Post,
 ) (target-loop-at t) target-loop.Post
-target-loop-part-descriptor-loop-start t c = ?
+target-loop-part-descriptor-loop-start t c = omega (arith, loop-two (now (c .before .before .before .before .args .s)), c .before .loop-size .ensures .is)
 
 -- src/loops.rt:68:33
 target-loop-part-descriptor-loop-end : (t : ℕ) → target-loop-lts.Need-part-descriptor-loop-end (
@@ -268,7 +283,7 @@ target-loop-part-descriptor-loop-end : (t : ℕ) → target-loop-lts.Need-part-d
   operational-loop-below t,
   operational-loop.Post,
 ) (target-loop-at t) target-loop.Post
-target-loop-part-descriptor-loop-end t c = ?
+target-loop-part-descriptor-loop-end t c = search needs
 
 -- src/loops.rt:68:9
 target-loop-descriptor-loop-requires : (t : ℕ) → target-loop-lts.Need-descriptor-loop-requires (
@@ -281,7 +296,7 @@ target-loop-descriptor-loop-requires : (t : ℕ) → target-loop-lts.Need-descri
   operational-loop-below t,
   operational-loop.Post,
 ) (target-loop-at t) target-loop.Post
-target-loop-descriptor-loop-requires t c κs = ?
+target-loop-descriptor-loop-requires t c κs = search needs
 
 -- src/loops.rt:70:9
 target-loop-returns-3 : (t : ℕ) → target-loop-lts.Need-returns-3 (
@@ -294,7 +309,8 @@ target-loop-returns-3 : (t : ℕ) → target-loop-lts.Need-returns-3 (
   operational-loop-below t,
   operational-loop.Post,
 ) (target-loop-at t) target-loop.Post
-target-loop-returns-3 t c = ?
+target-loop-returns-3 t c =     let a = c .before .before .before .before .before .before .before .args in
+    loops-bad false (now (a .s)) (a .other) _ _ (c .before .before .before .before .loop-size .ensures .is) (omega arith) (c .before .descriptor-loop .ensures) (c .if3 .taken)
 
 -- src/loops.rt:72:22
 target-loop-sub-operational-loop : (t : ℕ) → target-loop-lts.Need-sub-operational-loop (
@@ -307,7 +323,7 @@ target-loop-sub-operational-loop : (t : ℕ) → target-loop-lts.Need-sub-operat
   operational-loop-below t,
   operational-loop.Post,
 ) (target-loop-at t) target-loop.Post
-target-loop-sub-operational-loop t c = ?
+target-loop-sub-operational-loop t c = search needs
 
 -- src/loops.rt:72:22
 target-loop-part-operational-loop-start :
@@ -321,7 +337,7 @@ target-loop-part-operational-loop-start :
       operational-loop-below t,
       operational-loop.Post,
     ) (target-loop-at t) target-loop.Post
-target-loop-part-operational-loop-start t c = ?
+target-loop-part-operational-loop-start t c = search needs
 
 -- src/loops.rt:72:22
 target-loop-part-operational-loop-end : (t : ℕ) → target-loop-lts.Need-part-operational-loop-end (
@@ -334,7 +350,7 @@ target-loop-part-operational-loop-end : (t : ℕ) → target-loop-lts.Need-part-
   operational-loop-below t,
   operational-loop.Post,
 ) (target-loop-at t) target-loop.Post
-target-loop-part-operational-loop-end t c = ?
+target-loop-part-operational-loop-end t c = search needs
 
 -- src/loops.rt:72:5
 target-loop-operational-loop-requires : (t : ℕ) → target-loop-lts.Need-operational-loop-requires (
@@ -347,7 +363,7 @@ target-loop-operational-loop-requires : (t : ℕ) → target-loop-lts.Need-opera
   operational-loop-below t,
   operational-loop.Post,
 ) (target-loop-at t) target-loop.Post
-target-loop-operational-loop-requires t c κs = ?
+target-loop-operational-loop-requires t c κs = (rw from (simp length-drop (omega (arith, loop-two (now (c .before .before .before .before .before .before .before .before .args .s)), c .before .before .before .before .before .loop-size .ensures .is))), tt)
 
 -- src/loops.rt:58:1
 target-loop-returns-4 : (t : ℕ) → target-loop-lts.Need-returns-4 (
@@ -360,7 +376,9 @@ target-loop-returns-4 : (t : ℕ) → target-loop-lts.Need-returns-4 (
   operational-loop-below t,
   operational-loop.Post,
 ) (target-loop-at t) target-loop.Post
-target-loop-returns-4 t c = ?
+target-loop-returns-4 t c =     let a = c .before .before .before .before .before .before .before .before .before .args in
+    c .operational-loop .ensures
+    ∙ loops-on false (now (a .s)) (a .other) _ _ (c .before .before .before .before .before .before .loop-size .ensures .is) (omega arith) (c .before .before .before .descriptor-loop .ensures) (c .before .before .if3 .left)
 
 pub +operational-loop+target-loop-spec : {M : Type 1} → statement M
 +operational-loop+target-loop-spec =

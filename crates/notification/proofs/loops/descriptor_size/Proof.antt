@@ -1,3 +1,6 @@
+-- The code computes the definition.
+use Rattle.notification_rules.specs.Loop.{descriptorSize}
+use native.Mathlib.Omega.{arith}
 use borrow.Author.Needs.{needs}
 use Rattle.notification.proofs.loops.descriptor_size.Statement.{statement}
 use Rattle.notification.proofs.loops.descriptor_size.Tie as tie
@@ -19,7 +22,8 @@ add-result c = search needs
 
 -- src/loops.rt:20:1
 returns : tie.Need-returns
-returns c = ?
+unfolding descriptorSize
+returns c = record { is = rw (c .byte-at .ensures .is); below = omega (arith, c .byte-at .ensures .below) }
 
 pub descriptor-size-spec : {M : Type 1} → statement M
 descriptor-size-spec = tie.close (tie.spec byte-at-requires cast-result add-result returns)

@@ -1,3 +1,6 @@
+-- The code computes the definition.
+use Rattle.notification_rules.specs.Loop.{loopSize}
+use native.Mathlib.Omega.{arith}
 use borrow.Author.Needs.{needs}
 use Rattle.notification.proofs.loops.loop_size.Statement.{statement}
 use Rattle.notification.proofs.loops.loop_size.Tie as tie
@@ -15,7 +18,8 @@ add-result c = search needs
 
 -- src/loops.rt:13:1
 returns : tie.Need-returns
-returns c = ?
+unfolding loopSize
+returns c = record { is = rw (c .u16-at .ensures .is); below = omega arith }
 
 pub loop-size-spec : {M : Type 1} → statement M
 loop-size-spec = tie.close (tie.spec u16-at-requires add-result returns)

@@ -1,3 +1,7 @@
+-- Six bytes are two and four.
+use Rattle.notification.proofs.Addresses.{number-six}
+use denote.Ref.{now}
+use native.Mathlib.Omega.{arith}
 use borrow.Author.Needs.{needs}
 use Rattle.notification.proofs.target.address_at.Statement.{statement}
 use Rattle.notification.proofs.target.address_at.Tie as tie
@@ -28,7 +32,11 @@ add-result c = search needs
 
 -- src/target.rt:12:1
 returns : tie.Need-returns
-returns c = ?
+returns c =     let a = c .before .before .before .args in
+    record {
+      is = omega (arith, number-six (now (a .s)) (a .i), c .before .u16-at .ensures .is, c .u32-at .ensures .is);
+      below = omega (arith, c .before .u16-at .ensures .below, c .u32-at .ensures .below);
+    }
 
 pub address-at-spec : {M : Type 1} → statement M
 address-at-spec =

@@ -1,3 +1,5 @@
+-- The code computes the definition.
+use Rattle.notification_rules.specs.Target.{addressNumber}
 use borrow.Author.Needs.{needs}
 use Rattle.notification.proofs.target.address_number.Statement.{statement}
 use Rattle.notification.proofs.target.address_number.Tie as tie
@@ -15,7 +17,8 @@ address-at-requires c κs = search needs
 
 -- src/target.rt:19:1
 returns : tie.Need-returns
-returns c = ?
+unfolding addressNumber
+returns c = c .address-at .ensures .is
 
 pub address-number-spec : {M : Type 1} → statement M
 address-number-spec = tie.close (tie.spec slice-aggregate-address-at address-at-requires returns)

@@ -1,3 +1,8 @@
+-- The tag decides which test is made.
+use Rattle.notification_rules.specs.Target.{hit}
+use Rattle.wire.proofs.Choice.{yes-pick, not-pick, was}
+use borrow.Author.Tests.{eq-eqb, ne-eqb}
+use mathlib.Core.Path.{_∙_}
 use borrow.Author.Needs.{needs}
 use Rattle.notification.proofs.target.hit.Statement.{statement}
 use Rattle.notification.proofs.target.hit.Tie as tie
@@ -22,7 +27,8 @@ same-under-requires c κs = search needs
 
 -- src/target.rt:70:9
 returns : tie.Need-returns
-returns c = ?
+unfolding hit
+returns c = yes-pick _ _ (eq-eqb _ 0x07 (was (c .before .before .before .byte-at .ensures .is) (c .before .before .if1 .taken))) (c .same-under .ensures ∙ rw (c .before .behind .ensures .bytes))
 
 -- src/target.rt:72:5
 in-range-requires : tie.Need-in-range-requires
@@ -30,7 +36,8 @@ in-range-requires c κs = search needs
 
 -- src/target.rt:66:1
 returns-2 : tie.Need-returns-2
-returns-2 c = ?
+unfolding hit
+returns-2 c = not-pick _ _ (ne-eqb _ 0x07 (λ z. c .before .if1 .left (c .before .before .byte-at .ensures .is ∙ z))) (c .in-range .ensures)
 
 pub hit-spec : {M : Type 1} → statement M
 hit-spec =

@@ -1,3 +1,6 @@
+-- The code computes the definition.
+use Rattle.notification_rules.specs.Target.{inRange}
+use mathlib.Core.Path.{_∙_}
 use borrow.Author.Needs.{needs}
 use Rattle.notification.proofs.target.in_range.Statement.{statement}
 use Rattle.notification.proofs.target.in_range.Tie as tie
@@ -25,7 +28,9 @@ both-requires c κs = search needs
 
 -- src/target.rt:34:1
 returns : tie.Need-returns
-returns c = ?
+unfolding inRange
+returns c =     c .both .ensures
+    ∙ rw (c .before .address-at2 .ensures .is, c .before .before .address-at .ensures .is, c .before .before .before .address-number .ensures)
 
 pub in-range-spec : {M : Type 1} → statement M
 in-range-spec =

@@ -1,3 +1,5 @@
+-- The code computes the definition.
+use Rattle.notification_rules.specs.Target.{sameUnder}
 use borrow.Author.Needs.{needs}
 use Rattle.notification.proofs.target.same_under.Statement.{statement}
 use Rattle.notification.proofs.target.same_under.Tie as tie
@@ -20,7 +22,8 @@ address-number-requires c κs = search needs
 
 -- src/target.rt:26:1
 returns : tie.Need-returns
-returns c = ?
+unfolding sameUnder
+returns c = rw (c .address-number .ensures, c .before .address-at2 .ensures .is, c .before .before .address-at .ensures .is)
 
 pub same-under-spec : {M : Type 1} → statement M
 same-under-spec =
