@@ -1,3 +1,5 @@
 pub mod Addresses
 pub mod Faults
 pub mod Locations
+pub mod Pairs
+pub mod Refusals

@@ -103,17 +103,21 @@ fn search(device: Address, s: &[u8], from: usize, general: bool) -> usize
                 break 'pairs;
             }
             let mut rest = target;
-            'descriptors: while descriptor_size(rest) <= rest.len() {
-                let descriptor = &rest[..descriptor_size(rest)];
-                let size = entry_size(byte_at(descriptor, 0));
+            'descriptors: loop {
+                let size = descriptor_size(rest);
+                if rest.len() < size {
+                    break 'descriptors;
+                }
+                let descriptor = &rest[..size];
+                let step = entry_size(byte_at(descriptor, 0));
                 let mut addresses = entry_bytes(descriptor);
-                'addresses: while size <= addresses.len() {
-                    if hit(device, descriptor, &addresses[..size]) {
+                'addresses: while step <= addresses.len() {
+                    if hit(device, descriptor, &addresses[..step]) {
                         break 'pairs;
                     }
-                    addresses = &addresses[size..];
+                    addresses = &addresses[step..];
                 }
-                rest = &rest[descriptor.len()..];
+                rest = &rest[size..];
             }
         }
         at = at + 4 + target.len() + operational.len();
