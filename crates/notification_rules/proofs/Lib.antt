@@ -1,2 +1,5 @@
 pub mod Cuts
+pub mod Parts
+pub mod Pasts
 pub mod Pieces
+pub mod Sound

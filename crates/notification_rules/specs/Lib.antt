@@ -2,3 +2,4 @@ pub mod Cut
 pub mod Loop
 pub mod Target
 pub mod Notice
+pub mod Right
