@@ -22,7 +22,7 @@ use Rattle.notification_rules.proofs.Pieces.{loop-two, loops-stop, loops-more, 
 use Rattle.notification.proofs.Faults.{drop-take}
 use Rattle.notification.specs.Readers.{loopAt, Located, Turns, pairsFrom, pairAt, choiceAt}
 
-cut-here : (s : List ℕ) (o : ℕ) → o ≤ length s → o + loopSize (drop o s) ≤ length s
+pub cut-here : (s : List ℕ) (o : ℕ) → o ≤ length s → o + loopSize (drop o s) ≤ length s
     → cutOf loopSize (drop o s) ≡ more (loopAt s o) (cutOf loopSize (drop (o + loopSize (drop o s)) s))
 unfolding loopAt
 cut-here s o i h =
@@ -32,7 +32,7 @@ cut-here s o i h =
 cut-none : (s : List ℕ) (o : ℕ) → o ≤ length s → length s < o + loopSize (drop o s) → cutOf loopSize (drop o s) ≡ stop (drop o s)
 cut-none s o i h = loops-stop (drop o s) (rw (length-drop o s) (omega arith))
 
-length-loopAt : (s : List ℕ) (o : ℕ) → o ≤ length s → o + loopSize (drop o s) ≤ length s → length (loopAt s o) ≡ loopSize (drop o s)
+pub length-loopAt : (s : List ℕ) (o : ℕ) → o ≤ length s → o + loopSize (drop o s) ≤ length s → length (loopAt s o) ≡ loopSize (drop o s)
 unfolding loopAt
 length-loopAt s o i h = length-take-le (loopSize (drop o s)) (drop o s) (rw (length-drop o s) (omega arith))
 

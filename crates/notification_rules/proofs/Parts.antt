@@ -14,7 +14,7 @@ use Rattle.notification_rules.specs.Cut.{Size, Cut, stop, more, whole, c
 use Rattle.notification_rules.specs.Loop.{descriptorSize, loopSize, descriptorPieces}
 use Rattle.notification_rules.specs.Right.{Stands}
 use Rattle.notification_rules.proofs.Cuts.{whole-true, cut-stop, cut-more}
-use Rattle.notification_rules.proofs.Pieces.{front, descriptor-two}
+use Rattle.notification_rules.proofs.Pieces.{front, descriptor-two, loop-two}
 
 -- ---- what holds of nothing, and of a piece and what follows it, holds of a cut
 module _ (size : Size) (P : List ℕ → Cut → Type 0)
@@ -48,6 +48,16 @@ descriptor-long s d =
         → (d ≡ take (descriptorSize s) s) ⊎ List·Memᴰ d (cutOf descriptorSize (drop (descriptorSize s) s) .pieces) → length d ≡ 2 + byteAt d 1
     go s h ih (inl e) =
         rw (e, length-take-le (descriptorSize s) s (whole-true descriptorSize s h .1), front (descriptorSize s) 1 s (omega (arith, descriptor-two s)))
+    go s h ih (inr m) = ih m
+
+-- a loop has its two length bytes
+pub loop-long : (s l : List ℕ) → List·Memᴰ l (cutOf loopSize s .pieces) → 2 ≤ length l
+loop-long s l =
+    induct loopSize (λ s c. List·Memᴰ l (c .pieces) → 2 ≤ length l) (λ s h m. absurd (List·Memᴰ·not-nil m)) (λ s h ih m. go s h ih (List·Memᴰ·cases-cons m)) s
+  where
+    go : (s : List ℕ) → whole loopSize s ≡ true → (List·Memᴰ l (cutOf loopSize (drop (loopSize s) s) .pieces) → 2 ≤ length l)
+        → (l ≡ take (loopSize s) s) ⊎ List·Memᴰ l (cutOf loopSize (drop (loopSize s) s) .pieces) → 2 ≤ length l
+    go s h ih (inl e) = rw (e, length-take-le (loopSize s) s (whole-true loopSize s h .1)) (loop-two s)
     go s h ih (inr m) = ih m
 
 -- ---- members

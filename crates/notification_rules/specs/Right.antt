@@ -42,14 +42,11 @@ pub record Stands (s : List ℕ) (p : Part) : Type 0 where
   pub is : s ≡ front ++ (p .bytes ++ back)
   pub place : p .place ≡ length front
 
-pub record NineBytes (s : List ℕ) (p : ℕ) : Type 0 where
-  pub loop : Part
+pub record NineBytes (s : List ℕ) (loop descriptor : Part) : Type 0 where
   pub ofSection : List·Memᴰ loop (loopsOf s)
-  pub descriptor : Part
   pub ofLoop : List·Memᴰ descriptor (descriptorsOf loop)
   pub loopStands : Stands s loop
   pub stands : Stands s descriptor
-  pub place : p ≡ descriptor .place + 2
   pub tagged : byteAt (descriptor .bytes) 0 ≡ 0x13
   pub nine : byteAt (descriptor .bytes) 1 ≡ 9
   pub whole : length (descriptor .bytes) ≡ 11
@@ -58,7 +55,9 @@ pub record NineBytes (s : List ℕ) (p : ℕ) : Type 0 where
   pub before : loop .place + length (loop .bytes) ≤ crcPlace s
 
 abbrev pub PlaceIsRight : Type 0
-PlaceIsRight = (device : Address) (s : List ℕ) (p : ℕ) → noticeOf device s ≡ Found p → NineBytes s p
+PlaceIsRight =
+    (device : Address) (s : List ℕ) (p : ℕ) → noticeOf device s ≡ Found p
+    → (loop : Part) × (descriptor : Part) × NineBytes s loop descriptor × (p ≡ descriptor .place + 2)
 
 -- ---- what is written is cut back: descriptors into a loop, loops into a section
 -- descriptor_tag, descriptor_length, bytes
@@ -71,7 +70,7 @@ loopWritten b = bytesOf 2 (0xF000 + length b) ++ b
 
 abbrev pub DescriptorsCut : Type 0
 DescriptorsCut =
-    (ds : List (ℕ × List ℕ)) → ((d : ℕ × List ℕ) → List·Memᴰ d ds → length (d .1) ≤ 255)
+    (ds : List (ℕ × List ℕ))
     → cutOf descriptorSize (flatten (map descriptorWritten ds)) ≡ record { pieces = map descriptorWritten ds; left = [] }
 
 abbrev pub LoopsCut : Type 0

@@ -1,3 +1,13 @@
+-- A refusal and nobody give an empty part; else the pair that the search chose gives the nine bytes, which stand in the section.
+use Rattle.notification.proofs.Answers.{answered-refused, answered-nobody, platform-whole, pairs-turns, general-is, location-is, notice-nobody, found-given}
+use Rattle.notification.proofs.Pairs.{first-whole, second-whole, located-test}
+use Rattle.notification_rules.specs.Loop.{loopSize}
+use Rattle.wire.proofs.Choice.{was}
+use denote.Ref.{now}
+use lib.ListN.{length, drop}
+use mathlib.Core.Path.{_≡_, refl, sym, _∙_}
+use native.Mathlib.Omega.{arith}
+use Prim.Native.Nat.{ℕ, _+_, _≤_, _<_}
 use borrow.Author.Needs.{needs}
 use Rattle.notification.proofs.read.Statement.{statement}
 use Rattle.notification.proofs.read.Tie as tie
@@ -10,6 +20,9 @@ use Rattle.notification.proofs.loop_at.Reads as loop-at-reads
 use Rattle.notification.proofs.refusal.Reads as refusal-reads
 use Rattle.notification.proofs.search.Reads as search-reads
 
+below : (a b : ℕ) → a ≤ b → (a ≡ b → ⊥) → a < b
+below a b h n = omega arith
+
 -- src/lib.rt:128:9
 refusal-requires : tie.Need-refusal-requires
 refusal-requires c κs = search needs
@@ -20,7 +33,8 @@ slice-aggregate-result c = search needs
 
 -- src/lib.rt:131:9
 returns : tie.Need-returns
-returns c = ?
+returns c =     let A = c .before .before .before .before .args in
+    answered-refused (A .device) (A .s) _ _ (c .before .before .refusal .ensures) (c .before .if1 .taken) refl refl
 
 -- src/lib.rt:133:9
 checked-requires : tie.Need-checked-requires
@@ -28,7 +42,10 @@ checked-requires c κs = search needs
 
 -- src/lib.rt:134:9
 loop-at-requires : tie.Need-loop-at-requires
-loop-at-requires c κs = ?
+loop-at-requires c κs =     let A = c .before .before .before .before .args in
+    let H = c .checked in
+    let z = was (c .before .before .refusal .ensures) (c .before .if1 .left) in
+    platform-whole (A .device) (now (A .s)) (now (H .result)) (H .ensures .bytes) z
 
 -- src/lib.rt:135:19
 location-requires : tie.Need-location-requires
@@ -40,7 +57,10 @@ add-search c = search needs
 
 -- src/lib.rt:136:9
 search-requires : tie.Need-search-requires
-search-requires c κs = ?
+search-requires c κs =     let A = c .before .before .before .before .before .before .args in
+    let H = c .before .before .checked in
+    let z = was (c .before .before .before .before .refusal .ensures) (c .before .before .before .if1 .left) in
+    pairs-turns (A .device) (now (A .s)) (now (H .result)) (H .ensures .bytes) z (14 + length (now (c .before .loop-at .result))) (omega (arith, c .before .loop-at .ensures .size))
 
 -- src/lib.rt:139:9
 slice-aggregate-result-2 : tie.Need-slice-aggregate-result-2
@@ -48,11 +68,22 @@ slice-aggregate-result-2 c = search needs
 
 -- src/lib.rt:139:9
 returns-2 : tie.Need-returns-2
-returns-2 c = ?
+returns-2 c =     let A = c .before .before .before .before .before .before .before .before .before .args in
+    let H = c .before .before .before .before .before .checked in
+    let z = was (c .before .before .before .before .before .before .before .refusal .ensures) (c .before .before .before .before .before .before .if1 .left) in
+    let L = c .before .before .before .before .loop-at in
+    let n : 14 + length (now (L .result)) ≡ 12 + loopSize (drop 12 (now (H .result))) = omega (arith, L .ensures .size) in
+    let g = located-test (H .result .ptr) _ _ (c .before .before .before .location .ensures (H .result .ptr) 14 (record { bytes = refl; block = L .ensures .is .block; place = L .ensures .is .place })) ∙ general-is (now (H .result)) (now (L .result)) (L .ensures .is .bytes) in
+    answered-nobody (A .device) (A .s) _ (notice-nobody (A .device) (now (A .s)) (now (H .result)) (H .ensures .bytes) z _ n _ g _ (c .before .before .search .ensures) (c .before .if2 .taken)) refl refl
 
 -- src/lib.rt:142:9
 loop-at-requires-2 : tie.Need-loop-at-requires-2
-loop-at-requires-2 c κs = ?
+loop-at-requires-2 c κs =     let A = c .before .before .before .before .before .before .before .before .args in
+    let H = c .before .before .before .before .checked in
+    let z = was (c .before .before .before .before .before .before .refusal .ensures) (c .before .before .before .before .before .if1 .left) in
+    let Q = c .before .search in
+    let l : Q .result < length (now (H .result)) = below _ _ (Q .ensures .turns .inside) (c .if2 .left) in
+    first-whole (now (H .result)) (Q .result) (Q .ensures .turns) l
 
 -- src/lib.rt:143:24
 add-loop-at : tie.Need-add-loop-at
@@ -64,7 +95,12 @@ add-loop-at-2 c = search needs
 
 -- src/lib.rt:143:10
 loop-at-requires-3 : tie.Need-loop-at-requires-3
-loop-at-requires-3 c κs = ?
+loop-at-requires-3 c κs =     let A = c .before .before .before .before .before .before .before .before .before .args in
+    let H = c .before .before .before .before .before .checked in
+    let z = was (c .before .before .before .before .before .before .before .refusal .ensures) (c .before .before .before .before .before .before .if1 .left) in
+    let Q = c .before .before .search in
+    let l : Q .result < length (now (H .result)) = below _ _ (Q .ensures .turns .inside) (c .before .if2 .left) in
+    second-whole (now (H .result)) (Q .result) (Q .ensures .turns) l _ (omega (arith, c .loop-at2 .ensures .size))
 
 -- src/lib.rt:143:5
 pick-requires : tie.Need-pick-requires
@@ -72,7 +108,23 @@ pick-requires c κs = search needs
 
 -- src/lib.rt:125:1
 returns-3 : tie.Need-returns-3
-returns-3 c = ?
+returns-3 c =     let A = c .before .before .before .before .before .before .before .before .before .before .before .args in
+    let H = c .before .before .before .before .before .before .before .checked in
+    let z = was (c .before .before .before .before .before .before .before .before .before .refusal .ensures) (c .before .before .before .before .before .before .before .before .if1 .left) in
+    let L = c .before .before .before .before .before .before .loop-at in
+    let n : 14 + length (now (L .result)) ≡ 12 + loopSize (drop 12 (now (H .result))) = omega (arith, L .ensures .size) in
+    let g = located-test (H .result .ptr) _ _ (c .before .before .before .before .before .location .ensures (H .result .ptr) 14 (record { bytes = refl; block = L .ensures .is .block; place = L .ensures .is .place })) ∙ general-is (now (H .result)) (now (L .result)) (L .ensures .is .bytes) in
+    let Q = c .before .before .before .before .search in
+    let l : Q .result < length (now (H .result)) = below _ _ (Q .ensures .turns .inside) (c .before .before .before .if2 .left) in
+    let T = c .before .before .loop-at2 in
+    let O = c .before .loop-at3 in
+    let m : Q .result + 2 + length (now (T .result)) ≡ Q .result + loopSize (drop (Q .result) (now (H .result))) = omega (arith, T .ensures .size) in
+    let p = c .pick .ensures (A .s .ptr) (Q .result + 2 + length (now (T .result)) + 2) 14
+    (record { bytes = refl; block = O .ensures .is .block ∙ H .ensures .block; place = omega (arith, O .ensures .is .place, H .ensures .place) })
+    (record { bytes = refl; block = L .ensures .is .block ∙ H .ensures .block; place = omega (arith, L .ensures .is .place, H .ensures .place) }) in
+    let a = found-given (A .device) (now (A .s)) (now (H .result)) (H .ensures .bytes) z _ n _ g _ (Q .ensures) l (A .s .ptr) _
+    (rw (location-is (now (H .result)) (now (L .result)) (now (O .result)) (Q .result) _ m (L .ensures .is .bytes) (O .ensures .is .bytes)) at p) in
+    record { number = a .0; part = a .1 }
 
 pub read-spec : {M : Type 1} → statement M
 read-spec =
