@@ -2,29 +2,29 @@
 use Prim.Native.Nat.{ℕ, _+_, _-_, _≤_, _<_}
 use native.Mathlib.Omega.{arith}
 use native.Mathlib.Decide.{decLe}
-use mathlib.Core.Path.{_≡_, refl, sym, ap, ap₂, _∙_}
+use mathlib.Core.Path.{_≡_, refl, sym, ap, fun-ext, _∙_}
 use mathlib.Core.Bool.{Bool, true, false, not}
 use mathlib.Core.List.{List, [], _∷_, _++_, List·Memᴰ, List·Memᴰ·head, List·Memᴰ·tail}
 use lib.ListN.{length, take, drop, length-drop, drop-of-length-le}
 use lib.Dec.{eqb, ltb}
 use borrow.Author.Tests.{lt-ltb, le-ltb, eq-eqb, ne-eqb}
 use denote.Ref.{RefT, now}
-use Rattle.wire.specs.Choice.{pick, both}
+use Rattle.wire.specs.Choice.{pick, both, either}
 use Rattle.wire.proofs.Choice.{never}
 use Rattle.rules.specs.declared.Address.{Address}
 use Rattle.notification_rules.specs.declared.Notice.{Notice}
 use Rattle.notification_rules.specs.declared.Notice.the-variants.{Found, Nobody, Refused}
-use Rattle.notification_rules.specs.Cut.{Cut, cutOf, more, isNil, every, odd, Part, part, placed, Is}
+use Rattle.notification_rules.specs.Cut.{Cut, cutOf, stop, more, isNil, every, odd, Part, part, placed, Is}
 use Rattle.notification_rules.specs.Loop.{loopSize, checked, loopCut, loopsOf, content, filled, descriptorPieces, descriptorsOf, Pair, pairsOf}
-use Rattle.notification_rules.specs.Target.{Location, nowhere, at, located, isLocation, orElse, locationOf, answers, Choice, none, one, firstPair}
-use Rattle.notification_rules.specs.Notice.{refusal, fit, found, chosen, searched, noticeOf, numberOf, partOf, Answered}
+use Rattle.notification_rules.specs.Target.{isCover, coverOf, Location, nowhere, at, located, isLocation, orElse, locationOf, answers, Choice, none, one, firstPair}
+use Rattle.notification_rules.specs.Notice.{refusal, fits, found, chosen, searched, noticeOf, numberOf, partOf, Answered}
 use Rattle.notification_rules.specs.Right.{Stands, NineBytes}
-use Rattle.notification_rules.proofs.Pieces.{loop-two, loops-stop, fit-odd}
+use Rattle.notification_rules.proofs.Pieces.{loop-two, loops-stop}
 use Rattle.notification_rules.proofs.Parts.{stands-behind, stands-bytes}
 use Rattle.notification_rules.proofs.Sound.{Sound, sound}
-use Rattle.notification_rules.proofs.Found.{unrefused, first-is, answers-is}
+use Rattle.notification_rules.proofs.Found.{unrefused, first-is}
 use Rattle.notification_rules.proofs.Places.{nine-in, operational-one, split-one}
-use Rattle.notification.specs.Readers.{loopAt, Turns, pairsFrom, pairAt, choiceAt, Chosen, Picked}
+use Rattle.notification.specs.Readers.{loopAt, Turns, pairsFrom, pairAt, answersBy, choiceAt, Chosen, Picked}
 use Rattle.notification.proofs.Pairs.{cut-here, length-loopAt}
 
 -- ---- a refusal, and nobody
@@ -55,6 +55,11 @@ both-parts true true c e = (refl, refl)
 both-parts true false c e = absurd (never e)
 both-parts false b c e = absurd (never e)
 
+fits-stop : (s : List ℕ) → fits (stop s) ≡ false
+unfolding fits odd both
+fits-stop [] = refl
+fits-stop (x ∷ s) = refl
+
 second-true : (t u : Bool) → both t u ≡ true → u ≡ true
 unfolding both
 second-true true u e = e
@@ -71,13 +76,25 @@ pub location-is : (h x y : List ℕ) (r n : ℕ) → n ≡ r + loopSize (drop r 
 unfolding locationOf descriptorsOf pairAt
 location-is h x y r n en ex ey = rw (ex, ey, en)
 
+-- whether the platform loop has a location need be known only once
+or-location : (a b : Location) → either (isLocation a) (isLocation b) ≡ isLocation (orElse a b)
+unfolding isLocation orElse either
+or-location nowhere b = refl
+or-location (at d) b = refl
+
+answers-same : (device : Address) (platform : Part) (general : Bool) → general ≡ isLocation (located (descriptorsOf platform)) → (x : Pair)
+    → answersBy device general x ≡ answers device platform x
+unfolding answers answersBy locationOf
+answers-same device platform general e x =
+    rw e (ap (both (isCover (coverOf device (x .target)))) (or-location (located (descriptorsOf (x .operational))) (located (descriptorsOf platform))))
+
 module _ (device : Address) (s h : List ℕ) (eh : h ≡ checked s) (z : refusal s ≡ 0) where
   cut-is : loopCut s ≡ cutOf loopSize (drop 12 h)
   unfolding loopCut
   cut-is = ap (λ (l : List ℕ). cutOf loopSize (drop 12 l)) (sym eh)
 
-  fits : fit true (cutOf loopSize (drop 12 h)) ≡ true
-  fits = ap (fit true) (sym cut-is) ∙ sound s z .fits
+  fill : fits (cutOf loopSize (drop 12 h)) ≡ true
+  fill = ap fits (sym cut-is) ∙ sound s z .fill
 
   pub platform-whole : 12 + loopSize (drop 12 h) ≤ length h
   platform-whole = go (decLe (12 + loopSize (drop 12 h)) (length h))
@@ -86,17 +103,17 @@ module _ (device : Address) (s h : List ℕ) (eh : h ≡ checked s) (z : refusal
       go (yes w) = w
       go (no w) =
           let l : length (drop 12 h) < loopSize (drop 12 h) = rw (length-drop 12 h) (omega (arith, loop-two (drop 12 h))) in
-          absurd (never (sym (fit-odd (drop 12 h)) ∙ ap (fit true) (sym (loops-stop (drop 12 h) l)) ∙ fits))
+          absurd (never (sym (fits-stop (drop 12 h)) ∙ ap fits (sym (loops-stop (drop 12 h) l)) ∙ fill))
 
   module _ (n : ℕ) (en : n ≡ 12 + loopSize (drop 12 h)) where
     platform-cut : cutOf loopSize (drop 12 h) ≡ more (loopAt h 12) (cutOf loopSize (drop n h))
     platform-cut = let w = platform-whole in rw en (cut-here h 12 (omega arith) w)
 
     pub pairs-turns : Turns h n
-    unfolding fit odd pick
+    unfolding fits odd
     pairs-turns =
         let w = platform-whole in
-        let b = both-parts (isNil (cutOf loopSize (drop n h) .left)) (not (odd (cutOf loopSize (drop n h) .pieces))) _ (ap (fit true) (sym platform-cut) ∙ fits) in
+        let b = both-parts (isNil (cutOf loopSize (drop n h) .left)) (not (odd (cutOf loopSize (drop n h) .pieces))) _ (ap fits (sym platform-cut) ∙ fill) in
         record { inside = omega arith; full = b .0; even = not-yes (odd (cutOf loopSize (drop n h) .pieces)) (b .1) }
       where
         not-yes : (b : Bool) → not b ≡ true → b ≡ false
@@ -114,9 +131,12 @@ module _ (device : Address) (s h : List ℕ) (eh : h ≡ checked s) (z : refusal
     platform = part 12 (loopAt h 12)
 
     module _ (general : Bool) (eg : general ≡ isLocation (located (descriptorsOf platform))) (r : ℕ) (c : Chosen device general h n r) where
+      choice-same : choiceAt h r ≡ firstPair (answers device platform) (pairsFrom h n)
+      choice-same = c .first ∙ ap (λ (f : Pair → Bool). firstPair f (pairsFrom h n)) (fun-ext (answers-same device platform general eg))
+
       notice-is : noticeOf device s ≡ chosen platform (choiceAt h r)
       unfolding searched pairsFrom
-      notice-is = unrefused device s z ∙ rw (loops-are, ← eg, c .first)
+      notice-is = unrefused device s z ∙ rw (loops-are, choice-same)
 
       pub notice-nobody : r ≡ length h → noticeOf device s ≡ Nobody
       unfolding choiceAt pick chosen
@@ -132,14 +152,15 @@ module _ (device : Address) (s h : List ℕ) (eh : h ≡ checked s) (z : refusal
         notice-found = notice-is ∙ rw choice-is
 
         has-location : isLocation (locationOf platform (pairAt h r)) ≡ true
+        unfolding answers
         has-location =
-            let f = first-is (answers device general) (pairsFrom h n) (pairAt h r) (sym (c .first) ∙ choice-is) in
-            second-true _ _ (sym (answers-is device platform (pairAt h r)) ∙ ap (λ (g : Bool). answers device g (pairAt h r)) (sym eg) ∙ f .passes)
+            let f = first-is (answers device platform) (pairsFrom h n) (pairAt h r) (sym choice-same ∙ choice-is) in
+            second-true _ _ (f .passes)
 
         operational-is : List·Memᴰ (pairAt h r .operational) (loopsOf s)
         unfolding pairsFrom
         operational-is =
-            let f = first-is (answers device general) (pairsFrom h n) (pairAt h r) (sym (c .first) ∙ choice-is) in
+            let f = first-is (answers device platform) (pairsFrom h n) (pairAt h r) (sym choice-same ∙ choice-is) in
             rw loops-are (List·Memᴰ·tail (operational-one (placed n (cutOf loopSize (drop n h) .pieces)) (pairAt h r) (rw (f .split) (split-one (f .earlier) (f .later) (pairAt h r)))))
 
         platform-is : List·Memᴰ platform (loopsOf s)

@@ -8,15 +8,15 @@ use lib.Dec.{eqb}
 use borrow.Author.Tests.{eq-eqb, ne-eqb}
 use native.Mathlib.Nat.{pos-of-ne-zero}
 use native.Mathlib.Omega.{arith}
-use Rattle.wire.specs.Choice.{both, either, first}
+use Rattle.wire.specs.Choice.{pick, both, either, first}
 use Rattle.wire.specs.Bytes.{byteAt}
-use Rattle.notification_rules.specs.Cut.{Cut, more, cutOf, isNil, every}
+use Rattle.notification_rules.specs.Cut.{Cut, stop, more, cutOf, isNil, every, odd}
 use Rattle.notification_rules.specs.Loop.{loopSize, descriptorSize, content, filled}
 use Rattle.notification_rules.specs.Target.{rightLength}
-use Rattle.notification_rules.specs.Notice.{fit, known}
+use Rattle.notification_rules.specs.Notice.{known}
 use Rattle.notification_rules.proofs.Cuts.{from, nil-true, nil-false}
-use Rattle.notification_rules.proofs.Pieces.{descriptor-two, loop-two, filled-stop, filled-more, known-stop, known-more, loops-stop, loops-more, fit-more, fit-even, fit-odd}
-use Rattle.notification.specs.Readers.{descriptorFault, loopFault}
+use Rattle.notification_rules.proofs.Pieces.{descriptor-two, loop-two, filled-stop, filled-more, known-stop, known-more, loops-stop, loops-more}
+use Rattle.notification.specs.Readers.{descriptorFault, fitsBy, loopFault}
 
 pub drop-take : (k n : ℕ) (s : List ℕ) → drop k (take n s) ≡ take (n - k) (drop k s)
 drop-take zero n s = let e : n ≡ n - 0 = omega arith in ap (λ (m : ℕ). take m s) e
@@ -62,7 +62,36 @@ fault-more s other m n f h e =
     let l : descriptorSize s ≤ length s = omega arith in
     rw (from, f, e, filled-more s l, known-more s l, either-not)
 
--- ---- loops
+-- ---- loops by turns
+turn-step : (t n o f e : Bool) → both n (both (pick t (not o) (not (not o))) (both f e)) ≡ both f (both n (both (pick (not t) o (not o)) e))
+unfolding both pick
+turn-step true n true true e = refl
+turn-step true n false true e = refl
+turn-step false n true true e = refl
+turn-step false n false true e = refl
+turn-step true true true false e = refl
+turn-step true false true false e = refl
+turn-step true true false false e = refl
+turn-step true false false false e = refl
+turn-step false true true false e = refl
+turn-step false false true false e = refl
+turn-step false true false false e = refl
+turn-step false false false false e = refl
+
+fit-more : (t : Bool) (l : List ℕ) (c : Cut) → fitsBy t (more l c) ≡ both (filled (content l)) (fitsBy (not t) c)
+unfolding fitsBy odd every
+fit-more t l c = turn-step t (isNil (c .left)) (odd (c .pieces)) (filled (content l)) (every (λ m. filled (content m)) (c .pieces))
+
+fit-even : (s : List ℕ) → fitsBy false (stop s) ≡ isNil s
+unfolding fitsBy odd every both pick
+fit-even [] = refl
+fit-even (x ∷ s) = refl
+
+fit-odd : (s : List ℕ) → fitsBy true (stop s) ≡ false
+unfolding fitsBy odd every both pick
+fit-odd [] = refl
+fit-odd (x ∷ s) = refl
+
 pub loops-end : (s : List ℕ) (other : Bool) → length s ≡ 0 → first other 33 0 ≡ loopFault false s other
 unfolding loopFault first every
 loops-end s other h =
@@ -101,7 +130,7 @@ more-step true false false e g r h n = rw (eq-eqb r 33 h)
 module _ (t : Bool) (s : List ℕ) (other : Bool) (n r : ℕ) (f : n ≡ loopSize s) (h : n ≤ length s)
     (e : r ≡ descriptorFault (take (n - 2) (drop 2 s)) other) where
   step : loopFault t s other
-      ≡ first (not (both (filled (content (take n s))) (fit (not t) (cutOf loopSize (drop n s))))) 32
+      ≡ first (not (both (filled (content (take n s))) (fitsBy (not t) (cutOf loopSize (drop n s))))) 32
       (first (either other (not (both (known (content (take n s))) (every (λ l. known (content l)) (cutOf loopSize (drop n s) .pieces))))) 33 0)
   unfolding loopFault every
   step = let l : loopSize s ≤ length s = omega arith in rw (f, loops-more s l, fit-more)

@@ -16,11 +16,11 @@ use Rattle.wire.proofs.Choice.{never}
 use Rattle.rules.specs.declared.Address.{Address}
 use Rattle.notification_rules.specs.Cut.{Cut, cutOf, stop, more, isNil, any, odd, part, placed}
 use Rattle.notification_rules.specs.Loop.{loopSize, descriptorSize, content, Pair, pairsOf, descriptorsOf, descriptorPieces}
-use Rattle.notification_rules.specs.Target.{Location, nowhere, at, located, isLocation, Cover, isCover, coverOf, coverFrom, covers, answers, hit, entrySize, entryBytes, entryPieces, Choice, none, one, firstPair}
+use Rattle.notification_rules.specs.Target.{Location, nowhere, at, located, isLocation, Cover, isCover, coverOf, coverFrom, covers, hit, entrySize, entryBytes, entryPieces, Choice, none, one, firstPair}
 use Rattle.notification_rules.proofs.Cuts.{from, nil-true, nil-false, nil-length}
 use Rattle.notification_rules.proofs.Pieces.{loop-two, loops-stop, loops-more, stops, goes-on, descriptors-stop, descriptors-more, covered-any, located-any}
 use Rattle.notification.proofs.Faults.{drop-take}
-use Rattle.notification.specs.Readers.{loopAt, Located, Turns, pairsFrom, pairAt, choiceAt}
+use Rattle.notification.specs.Readers.{loopAt, Located, Turns, pairsFrom, pairAt, answersBy, choiceAt}
 
 pub cut-here : (s : List ℕ) (o : ℕ) → o ≤ length s → o + loopSize (drop o s) ≤ length s
     → cutOf loopSize (drop o s) ≡ more (loopAt s o) (cutOf loopSize (drop (o + loopSize (drop o s)) s))
@@ -129,8 +129,8 @@ located-test start (at d) r i = ap not (ne-eqb (length (now r)) 0 (λ z. omega (
 module _ (device : Address) (general : Bool) (s : List ℕ) (o n : ℕ) (e : n ≡ o + loopSize (drop o s))
     (x y : List ℕ) (ex : x ≡ content (loopAt s o)) (ey : y ≡ content (loopAt s n)) (b : Bool)
     (eb : b ≡ either (isLocation (located (placed (n + 2) (descriptorPieces y)))) general) where
-  answers-by : (k : Bool) → isCover (coverOf device (part o (loopAt s o))) ≡ k → answers device general (pairAt s o) ≡ both k b
-  unfolding answers pairAt descriptorsOf
+  answers-by : (k : Bool) → isCover (coverOf device (part o (loopAt s o))) ≡ k → answersBy device general (pairAt s o) ≡ both k b
+  unfolding answersBy pairAt descriptorsOf
   answers-by k h = rw (h, ← e, ← ey, ← eb)
 
   cover-empty : length x ≡ 0 → isCover (coverOf device (part o (loopAt s o))) ≡ true
@@ -145,11 +145,11 @@ module _ (device : Address) (general : Bool) (s : List ℕ) (o n : ℕ) (e : n �
       pos [] z = absurd (z refl)
       pos (v ∷ w) z = omega arith
 
-  pub answers-empty : length x ≡ 0 → b ≡ true → answers device general (pairAt s o) ≡ true
+  pub answers-empty : length x ≡ 0 → b ≡ true → answersBy device general (pairAt s o) ≡ true
   unfolding both
   answers-empty z h = answers-by true (cover-empty z) ∙ h
 
-  pub answers-some : (length x ≡ 0 → ⊥) → b ≡ true → (k : Bool) → any (covers device) (descriptorPieces x) ≡ k → answers device general (pairAt s o) ≡ k
+  pub answers-some : (length x ≡ 0 → ⊥) → b ≡ true → (k : Bool) → any (covers device) (descriptorPieces x) ≡ k → answersBy device general (pairAt s o) ≡ k
   unfolding both
   answers-some z h k a = answers-by k (cover-some z ∙ a) ∙ rw h (and-true k)
     where
@@ -157,7 +157,7 @@ module _ (device : Address) (general : Bool) (s : List ℕ) (o n : ℕ) (e : n �
       and-true true = refl
       and-true false = refl
 
-  pub answers-nowhere : b ≡ false → answers device general (pairAt s o) ≡ false
+  pub answers-nowhere : b ≡ false → answersBy device general (pairAt s o) ≡ false
   unfolding both
   answers-nowhere h = answers-by _ refl ∙ rw h (and-false (isCover (coverOf device (part o (loopAt s o)))))
     where

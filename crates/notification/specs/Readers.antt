@@ -6,21 +6,25 @@ use mathlib.Core.List.{List, []}
 use lib.ListN.{length, take, drop}
 use lib.Dec.{ltb}
 use denote.Ref.{RefT, now}
-use Rattle.wire.specs.Choice.{pick, either, first}
+use Rattle.wire.specs.Choice.{pick, both, either, first}
 use Rattle.rules.specs.declared.Address.{Address}
-use Rattle.notification_rules.specs.Cut.{Size, cutOf, isNil, every, odd, Part, part, placed, Is}
-use Rattle.notification_rules.specs.Loop.{loopSize, content, filled, Pair, pairsOf, descriptorPieces}
-use Rattle.notification_rules.specs.Target.{Location, nowhere, at, located, orElse, answers, Choice, none, one, firstPair}
-use Rattle.notification_rules.specs.Notice.{fit, known}
+use Rattle.notification_rules.specs.Cut.{Size, Cut, cutOf, isNil, every, odd, Part, part, placed, Is}
+use Rattle.notification_rules.specs.Loop.{loopSize, content, filled, Pair, pairsOf, descriptorPieces, descriptorsOf}
+use Rattle.notification_rules.specs.Target.{isCover, coverOf, Location, nowhere, at, located, isLocation, orElse, Choice, none, one, firstPair}
+use Rattle.notification_rules.specs.Notice.{known}
 
 -- 32 where descriptors do not fill a loop, else 33 where a known one has another length, here or before, else 0
 unfoldable pub descriptorFault : List ℕ → Bool → ℕ
 descriptorFault b other = first (not (filled b)) 32 (first (either other (not (known b))) 33 0)
 
--- the same of loops by turns, the first an operational loop where `turn` says so
+-- loops that fill exactly; the first is a target loop where `turn` is false, so that they are even in number
+unfoldable pub fitsBy : Bool → Cut → Bool
+fitsBy turn c = both (isNil (c .left)) (both (pick turn (odd (c .pieces)) (not (odd (c .pieces)))) (every (λ l. filled (content l)) (c .pieces)))
+
+-- the same of loops by turns
 unfoldable pub loopFault : Bool → List ℕ → Bool → ℕ
 loopFault turn s other =
-    first (not (fit turn (cutOf loopSize s))) 32 (first (either other (not (every (λ l. known (content l)) (cutOf loopSize s .pieces)))) 33 0)
+    first (not (fitsBy turn (cutOf loopSize s))) 32 (first (either other (not (every (λ l. known (content l)) (cutOf loopSize s .pieces)))) 33 0)
 
 -- ---- a slice without its first k bytes
 pub record Behind (s : RefT (List ℕ)) (k : ℕ) (r : RefT (List ℕ)) : Type 0 where
@@ -74,11 +78,16 @@ pairAt s o =
       operational = part (o + loopSize (drop o s)) (loopAt s (o + loopSize (drop o s)));
     }
 
+-- the pair covers the device and has a location, where `general` says that the platform loop has one
+unfoldable pub answersBy : Address → Bool → Pair → Bool
+answersBy device general x =
+    both (isCover (coverOf device (x .target))) (either (isLocation (located (descriptorsOf (x .operational)))) general)
+
 -- the pair at a place, or none at the end
 unfoldable pub choiceAt : List ℕ → ℕ → Choice
 choiceAt s o = pick (ltb o (length s)) (one (pairAt s o)) none
 
 -- r is the place of the first pair from o on that answers, or the end
 pub record Chosen (device : Address) (general : Bool) (s : List ℕ) (o r : ℕ) : Type 0 where
-  pub first : choiceAt s r ≡ firstPair (answers device general) (pairsFrom s o)
+  pub first : choiceAt s r ≡ firstPair (answersBy device general) (pairsFrom s o)
   pub turns : Turns s r

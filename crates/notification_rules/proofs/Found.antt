@@ -7,7 +7,7 @@ use mathlib.Core.Logic.{_⊎_, inl, inr, _↔_}
 use mathlib.Core.List.{List, [], _∷_, _++_, List·Memᴰ, List·Memᴰ·head, List·Memᴰ·tail, List·Memᴰ·not-nil, List·Memᴰ·cases-cons}
 use lib.Dec.{eqb}
 use borrow.Author.Tests.{eq-eqb, ne-eqb}
-use Rattle.wire.specs.Choice.{pick, both, either}
+use Rattle.wire.specs.Choice.{pick, both}
 use Rattle.wire.proofs.Choice.{never}
 use Rattle.rules.specs.declared.Address.{Address}
 use Rattle.notification_rules.specs.declared.Notice.{Notice}
@@ -60,17 +60,6 @@ is-first f [] x later p h = rw h
 is-first f (y ∷ ys) x later p h = rw (p y (List·Memᴰ·head refl)) (is-first f ys x later (λ z m. p z (List·Memᴰ·tail m)) h)
 
 -- ---- the test
-or-location : (a b : Location) → isLocation (orElse a b) ≡ either (isLocation a) (isLocation b)
-unfolding isLocation orElse either
-or-location nowhere b = refl
-or-location (at d) b = refl
-
-pub answers-is : (device : Address) (platform : Part) (x : Pair)
-    → answers device (isLocation (located (descriptorsOf platform))) x ≡ both (isCover (coverOf device (x .target))) (isLocation (locationOf platform x))
-unfolding answers locationOf
-answers-is device platform x =
-    ap (both (isCover (coverOf device (x .target)))) (sym (or-location (located (descriptorsOf (x .operational))) (located (descriptorsOf platform))))
-
 both-yes : (t u : Bool) → both t u ≡ true → (t ≡ true) × (u ≡ true)
 unfolding both
 both-yes true u h = (refl, h)
@@ -103,15 +92,15 @@ unfolding noticeOf pick
 unrefused device s h = rw (eq-eqb (refusal s) 0 h)
 
 found-first : (device : Address) (s : List ℕ) (p : ℕ) (ls : List Part) → loopsOf s ≡ ls → searched device ls ≡ Found p → FirstAnswer device s p
-unfolding searched chosen
+unfolding searched chosen answers
 found-first device s p [] e h = absurd (let z : _≡_ {A = ℕ} 0 1 = cc in omega arith)
-found-first device s p (platform ∷ loops) e h = go (firstPair (answers device (isLocation (located (descriptorsOf platform)))) (pairsOf loops)) refl h
+found-first device s p (platform ∷ loops) e h = go (firstPair (answers device platform) (pairsOf loops)) refl h
   where
-    go : (c : Choice) → firstPair (answers device (isLocation (located (descriptorsOf platform)))) (pairsOf loops) ≡ c → chosen platform c ≡ Found p → FirstAnswer device s p
+    go : (c : Choice) → firstPair (answers device platform) (pairsOf loops) ≡ c → chosen platform c ≡ Found p → FirstAnswer device s p
     go none q h = absurd (let z : _≡_ {A = ℕ} 0 1 = cc in omega arith)
     go (one x) q h =
         let r = first-is _ (pairsOf loops) x q in
-        let y = both-yes _ _ (sym (answers-is device platform x) ∙ r .passes) in
+        let y = both-yes _ _ (r .passes) in
         let d = found-place (locationOf platform x) p h in
         record {
           platform = platform;
@@ -121,7 +110,7 @@ found-first device s p (platform ∷ loops) e h = go (firstPair (answers device 
           pair = x;
           later = r .later;
           split = r .split;
-          passed = λ z m. no-place _ _ (sym (answers-is device platform z) ∙ r .passed z m);
+          passed = λ z m. no-place _ _ (r .passed z m);
           covers = y .0;
           location = d .0;
           located = d .1 .0;
@@ -129,16 +118,13 @@ found-first device s p (platform ∷ loops) e h = go (firstPair (answers device 
         }
 
 first-found : (device : Address) (s : List ℕ) (p : ℕ) → FirstAnswer device s p → searched device (loopsOf s) ≡ Found p
-unfolding searched chosen found both isLocation
+unfolding searched chosen found answers both isLocation
 first-found device s p a =
-    let f = answers device (isLocation (located (descriptorsOf (a .platform)))) in
-    let t : f (a .pair) ≡ true = answers-is device (a .platform) (a .pair) ∙ rw (a .covers, a .located) (both-true) in
+    let f = answers device (a .platform) in
+    let t : f (a .pair) ≡ true = rw (a .covers, a .located) in
     let e : firstPair f (pairsOf (a .loops)) ≡ one (a .pair) =
-    ap (firstPair f) (a .split) ∙ is-first f (a .earlier) (a .pair) (a .later) (λ y m. answers-is device (a .platform) y ∙ passes-not _ _ (a .passed y m)) t in
+    ap (firstPair f) (a .split) ∙ is-first f (a .earlier) (a .pair) (a .later) (λ y m. passes-not _ _ (a .passed y m)) t in
     rw (a .cut, e, a .located, a .place)
-  where
-    both-true : both true (isLocation (at (a .location))) ≡ true
-    both-true = refl
 
 pub found-exactly : FoundExactly
 found-exactly device s p h =

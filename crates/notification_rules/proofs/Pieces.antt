@@ -15,7 +15,7 @@ use Rattle.rules.specs.declared.Address.{Address}
 use Rattle.notification_rules.specs.Cut.{Size, Cut, stop, more, cutOf, isNil, every, any, odd, Part, part, placed}
 use Rattle.notification_rules.specs.Loop.{loopSize, descriptorSize, content, filled, tag, bodyLength, descriptorPieces, Pair, pairsOf, descriptorsOf}
 use Rattle.notification_rules.specs.Target.{rightLength, streamLocation, Location, nowhere, at, located, isLocation, Cover, nobody, by, coverFrom, isCover, coverOf, covers, entrySize, entryPieces, entryBytes}
-use Rattle.notification_rules.specs.Notice.{fit, known}
+use Rattle.notification_rules.specs.Notice.{known}
 use Rattle.notification_rules.proofs.Cuts.{whole-yes, whole-no, cut-stop, cut-more, nil-true, nil-false}
 
 pub loop-two : (s : List ℕ) → 2 ≤ loopSize s
@@ -115,33 +115,3 @@ covered-any device o (d ∷ ds) = go (covers device d) (covered-any device (o + 
         → isCover (pick b (by o) (coverFrom device (placed (o + length d) ds))) ≡ pick b true (any (covers device) ds)
     go true ih = refl
     go false ih = ih
-
--- ---- loops by turns
-turn-step : (t n o f e : Bool) → both n (both (pick t (not o) (not (not o))) (both f e)) ≡ both f (both n (both (pick (not t) o (not o)) e))
-unfolding both pick
-turn-step true n true true e = refl
-turn-step true n false true e = refl
-turn-step false n true true e = refl
-turn-step false n false true e = refl
-turn-step true true true false e = refl
-turn-step true false true false e = refl
-turn-step true true false false e = refl
-turn-step true false false false e = refl
-turn-step false true true false e = refl
-turn-step false false true false e = refl
-turn-step false true false false e = refl
-turn-step false false false false e = refl
-
-pub fit-more : (t : Bool) (l : List ℕ) (c : Cut) → fit t (more l c) ≡ both (filled (content l)) (fit (not t) c)
-unfolding fit odd every
-fit-more t l c = turn-step t (isNil (c .left)) (odd (c .pieces)) (filled (content l)) (every (λ m. filled (content m)) (c .pieces))
-
-pub fit-even : (s : List ℕ) → fit false (stop s) ≡ isNil s
-unfolding fit odd every both pick
-fit-even [] = refl
-fit-even (x ∷ s) = refl
-
-pub fit-odd : (s : List ℕ) → fit true (stop s) ≡ false
-unfolding fit odd every both pick
-fit-odd [] = refl
-fit-odd (x ∷ s) = refl

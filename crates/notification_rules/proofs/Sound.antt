@@ -11,7 +11,7 @@ use Rattle.rules.specs.Check.{faultLines}
 use Rattle.rules.proofs.Check.{fault-numbered}
 use Rattle.notification_rules.specs.Cut.{every}
 use Rattle.notification_rules.specs.Loop.{loopCut, content}
-use Rattle.notification_rules.specs.Notice.{notificationForm, platformLines, loopLines, misfit, otherLength, fit, known, refusal}
+use Rattle.notification_rules.specs.Notice.{notificationForm, platformLines, loopLines, misfit, otherLength, fits, known, refusal}
 use Rattle.notification_rules.proofs.Pasts.{past}
 
 pub platform-numbered : (s : List ℕ) → numbered (platformLines s) ≡ true
@@ -25,7 +25,7 @@ none-applies false true h = absurd (omega (arith, h))
 none-applies false false h = (refl, refl)
 
 pub record Sound (s : List ℕ) : Type 0 where
-  pub fits : fit true (loopCut s) ≡ true
+  pub fill : fits (loopCut s) ≡ true
   pub right : every (λ l. known (content l)) (loopCut s .pieces) ≡ true
 
 pub sound : (s : List ℕ) → refusal s ≡ 0 → Sound s
@@ -35,6 +35,6 @@ sound s h =
     let q : firstOf (loopLines s) ≡ 0 = past (platformLines s) (loopLines s) (platform-numbered s) p in
     let n = none-applies (misfit s) (otherLength s) q in
     record {
-      fits = not-false (fit true (loopCut s)) (n .0);
+      fill = not-false (fits (loopCut s)) (n .0);
       right = not-false (every (λ l. known (content l)) (loopCut s .pieces)) (n .1);
     }

@@ -15,8 +15,8 @@ use Rattle.rules.specs.Check.{faultLines}
 use Rattle.notification_rules.specs.declared.Notice.{Notice}
 use Rattle.notification_rules.specs.declared.Notice.the-variants.{Found, Nobody, Refused}
 use Rattle.notification_rules.specs.Cut.{Cut, Part, part, Is, isNil, every, odd}
-use Rattle.notification_rules.specs.Loop.{actionType, platformIdHash, loopCut, loopsOf, content, descriptorPieces, filled, tag, bodyLength, pairsOf, descriptorsOf}
-use Rattle.notification_rules.specs.Target.{rightLength, located, isLocation, locationOf, Location, nowhere, at, answers, Choice, none, one, firstPair}
+use Rattle.notification_rules.specs.Loop.{actionType, platformIdHash, loopCut, loopsOf, content, descriptorPieces, filled, tag, bodyLength, pairsOf}
+use Rattle.notification_rules.specs.Target.{rightLength, locationOf, Location, nowhere, at, answers, Choice, none, one, firstPair}
 
 -- 12 to 18 as for every table; bit 6 of byte 1 is not looked at
 abbrev pub notificationForm : Form
@@ -30,13 +30,13 @@ otherAction s = not (eqb (actionType s) 0x01)
 unfoldable pub wrongHash : List ℕ → Bool
 wrongHash s = not (eqb (platformIdHash s) (bitXor (bitXor (byteAt s 8) (byteAt s 9)) (byteAt s 10)))
 
--- nothing is left, the loops are odd in number where `turn` says so, and each loop's descriptors fill it
-unfoldable pub fit : Bool → Cut → Bool
-fit turn c = both (isNil (c .left)) (both (pick turn (odd (c .pieces)) (not (odd (c .pieces)))) (every (λ l. filled (content l)) (c .pieces)))
+-- nothing is left, a platform loop and pairs are an odd number of loops, and its descriptors fill each loop
+unfoldable pub fits : Cut → Bool
+fits c = both (isNil (c .left)) (both (odd (c .pieces)) (every (λ l. filled (content l)) (c .pieces)))
 
--- 32: loops or descriptors do not fill exactly; a platform loop and pairs are an odd number of loops
+-- 32: loops or descriptors do not fill exactly
 unfoldable pub misfit : List ℕ → Bool
-misfit s = not (fit true (loopCut s))
+misfit s = not (fits (loopCut s))
 
 -- every known descriptor of a loop has a right length
 unfoldable pub known : List ℕ → Bool
@@ -70,8 +70,7 @@ chosen platform (one x) = found (locationOf platform x)
 -- the search over the pairs stops at the first that covers the device and has a location
 unfoldable pub searched : Address → List Part → Notice
 searched device [] = Nobody
-searched device (platform ∷ loops) =
-    chosen platform (firstPair (answers device (isLocation (located (descriptorsOf platform)))) (pairsOf loops))
+searched device (platform ∷ loops) = chosen platform (firstPair (answers device platform) (pairsOf loops))
 
 -- the one answer
 unfoldable pub noticeOf : Address → List ℕ → Notice

@@ -6,7 +6,7 @@ use lib.ListN.{drop}
 use lib.Bits.{bitAnd}
 use lib.Dec.{leb, eqb}
 use Rattle.wire.specs.Bytes.{numberAt}
-use Rattle.wire.specs.Choice.{pick, both, either}
+use Rattle.wire.specs.Choice.{pick, both}
 use Rattle.rules.specs.declared.Address.{Address}
 use Rattle.notification_rules.specs.Cut.{cutOf, Part, placed, isNil, any}
 use Rattle.notification_rules.specs.Loop.{tag, bodyLength, body, content, descriptorsOf, Pair}
@@ -96,10 +96,9 @@ unfoldable pub locationOf : Part → Pair → Location
 locationOf platform x = orElse (located (descriptorsOf (x .operational))) (located (descriptorsOf platform))
 
 -- ---- the search
--- the pair covers the device and has a location; `general` says that the platform loop has one
-unfoldable pub answers : Address → Bool → Pair → Bool
-answers device general x =
-    both (isCover (coverOf device (x .target))) (either (isLocation (located (descriptorsOf (x .operational)))) general)
+-- the pair covers the device and has a location
+unfoldable pub answers : Address → Part → Pair → Bool
+answers device platform x = both (isCover (coverOf device (x .target))) (isLocation (locationOf platform x))
 
 pub data Choice : Type 0 where
   none : Choice

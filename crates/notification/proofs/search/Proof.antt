@@ -1,9 +1,9 @@
 -- Outside: whole pairs stand from here on, and the first that answers is the same as from the start. Inside: what is left of a target loop, or of a descriptor, covers the device as the whole of it does.
 use Rattle.notification.proofs.Pairs.{first-whole, second-whole, next-turns, skips, hits, ends, located-test, answers-empty, answers-some, answers-nowhere, no-descriptor, descriptor-hit, descriptor-miss, entry-some, no-entry, entry-hit, entry-miss, covers-by}
-use Rattle.notification.specs.Readers.{Turns, pairsFrom, pairAt}
+use Rattle.notification.specs.Readers.{Turns, pairsFrom, pairAt, answersBy}
 use Rattle.notification_rules.proofs.Pieces.{descriptor-two}
 use Rattle.notification_rules.proofs.Cuts.{from}
-use Rattle.notification_rules.specs.Target.{answers, covers, hit, firstPair}
+use Rattle.notification_rules.specs.Target.{covers, hit, firstPair}
 use Rattle.notification_rules.specs.Loop.{loopSize, descriptorPieces}
 use Rattle.notification_rules.specs.Cut.{cutOf, any}
 use Rattle.wire.proofs.Choice.{was}
@@ -43,7 +43,7 @@ abbrev μ-descriptors : tie.MeasureT-descriptors
 μ-descriptors device s from general at target operational rest₀ rest = length rest
 
 abbrev Inv-pairs : tie.InvT-pairs
-Inv-pairs device s from general at₀ at =     Turns s at × (firstPair (answers device general) (pairsFrom s at) ≡ firstPair (answers device general) (pairsFrom s from))
+Inv-pairs device s from general at₀ at =     Turns s at × (firstPair (answersBy device general) (pairsFrom s at) ≡ firstPair (answersBy device general) (pairsFrom s from))
 
 abbrev μ-pairs : tie.MeasureT-pairs
 μ-pairs device s from general at₀ at = length s - at
@@ -389,12 +389,12 @@ pairs-again c =     let A = c .before .before .before .before .before .before .b
     let told = c .before .either .ensures
     ∙ ap (λ (t : Bool). either t (A .general)) (located-test (A .s .ptr) _ _ (c .before .before .location .ensures (A .s .ptr) _ (record { bytes = refl; block = H2 .ensures .is .block; place = H2 .ensures .is .place }))) in
     let f : P .at + 4 + length (now (H1 .result)) + length (now (H2 .result)) ≡ P .at + 2 + length (now (H1 .result)) + loopSize (drop (P .at + 2 + length (now (H1 .result))) S) = omega (arith, H2 .ensures .size) in
-    let silent : answers (A .device) (A .general) (pairAt S (P .at)) ≡ false = ⊎-elim
+    let silent : answersBy (A .device) (A .general) (pairAt S (P .at)) ≡ false = ⊎-elim
     (λ j. answers-some (A .device) (A .general) S (P .at) _ e (now (H1 .result)) (now (H2 .result)) (H1 .ensures .is .bytes) (H2 .ensures .is .bytes) (c .before .either .result) told (j .1 .left) (j .0 .taken) false
     (sym (j .2 .inv) ∙ no-descriptor (A .device) (now (j .2 .rest)) _ (j .3 .ensures .is) (j .4 .taken)))
     (λ j. answers-nowhere (A .device) (A .general) S (P .at) _ e (now (H1 .result)) (now (H2 .result)) (H1 .ensures .is .bytes) (H2 .ensures .is .bytes) (c .before .either .result) told (j .left))
     (c .if1 .came) in
-    (next-turns S (P .at) (P .inv .0) (c .before .before .before .before .before .pairs-test .taken) _ e _ f, skips S (P .at) (P .inv .0) (c .before .before .before .before .before .pairs-test .taken) _ e _ f (answers (A .device) (A .general)) silent ∙ P .inv .1)
+    (next-turns S (P .at) (P .inv .0) (c .before .before .before .before .before .pairs-test .taken) _ e _ f, skips S (P .at) (P .inv .0) (c .before .before .before .before .before .pairs-test .taken) _ e _ f (answersBy (A .device) (A .general)) silent ∙ P .inv .1)
 
 -- src/lib.rt:93:1
 returns :
@@ -402,7 +402,7 @@ returns :
 returns c =     let A = c .before .before .before .args in
     let P = c .before .pairs in
     record {
-      first = ends (now (A .s)) (P .at) (answers (A .device) (A .general)) (P .inv .0 .inside) (omega (arith, c .pairs-test .left)) ∙ P .inv .1;
+      first = ends (now (A .s)) (P .at) (answersBy (A .device) (A .general)) (P .inv .0 .inside) (omega (arith, c .pairs-test .left)) ∙ P .inv .1;
       turns = P .inv .0;
     }
 
@@ -419,7 +419,7 @@ returns-2 c =     let A = c .before .before .before .before .before .before .bef
     ∙ ap (λ (t : Bool). either t (A .general)) (located-test (A .s .ptr) _ _ (c .before .before .before .location .ensures (A .s .ptr) _ (record { bytes = refl; block = H2 .ensures .is .block; place = H2 .ensures .is .place }))) in
     let f : P .at + 4 + length (now (H1 .result)) + length (now (H2 .result)) ≡ P .at + 2 + length (now (H1 .result)) + loopSize (drop (P .at + 2 + length (now (H1 .result))) S) = omega (arith, H2 .ensures .size) in
     record {
-      first = hits S (P .at) (P .inv .0) (c .before .before .before .before .before .before .pairs-test .taken) _ e _ f (answers (A .device) (A .general)) (answers-empty (A .device) (A .general) S (P .at) _ e (now (H1 .result)) (now (H2 .result)) (H1 .ensures .is .bytes) (H2 .ensures .is .bytes) (c .before .before .either .result) told (c .if2 .taken) (c .before .if1 .taken)) ∙ P .inv .1;
+      first = hits S (P .at) (P .inv .0) (c .before .before .before .before .before .before .pairs-test .taken) _ e _ f (answersBy (A .device) (A .general)) (answers-empty (A .device) (A .general) S (P .at) _ e (now (H1 .result)) (now (H2 .result)) (H1 .ensures .is .bytes) (H2 .ensures .is .bytes) (c .before .before .either .result) told (c .if2 .taken) (c .before .if1 .taken)) ∙ P .inv .1;
       turns = P .inv .0;
     }
 
@@ -443,7 +443,7 @@ returns-3 c =     let A = c .before .before .before .before .before .before .bef
     let by = covers-by D d _ _ _ true (c .before .before .before .before .before .before .before .byte-at .ensures .is) (c .before .before .before .before .before .before .entry-size .ensures) (c .before .before .before .before .before .entry-bytes .ensures) (sym (c .before .before .before .before .addresses .inv) ∙ struck) in
     let all = sym (c .before .before .before .before .before .before .before .before .before .before .before .descriptors .inv) ∙ descriptor-hit D R n (c .before .before .before .before .before .before .before .before .before .before .descriptor-size .ensures .is) (omega (arith, c .before .before .before .before .before .before .before .before .before .if3 .left)) by in
     record {
-      first = hits S (P .at) (P .inv .0) (c .before .before .before .before .before .before .before .before .before .before .before .before .before .before .before .before .before .before .pairs-test .taken) _ e _ f (answers D (A .general)) (answers-some (A .device) (A .general) S (P .at) _ e (now (H1 .result)) (now (H2 .result)) (H1 .ensures .is .bytes) (H2 .ensures .is .bytes) (c .before .before .before .before .before .before .before .before .before .before .before .before .before .before .either .result) told (c .before .before .before .before .before .before .before .before .before .before .before .before .if2 .left) (c .before .before .before .before .before .before .before .before .before .before .before .before .before .if1 .taken) true all) ∙ P .inv .1;
+      first = hits S (P .at) (P .inv .0) (c .before .before .before .before .before .before .before .before .before .before .before .before .before .before .before .before .before .before .pairs-test .taken) _ e _ f (answersBy D (A .general)) (answers-some (A .device) (A .general) S (P .at) _ e (now (H1 .result)) (now (H2 .result)) (H1 .ensures .is .bytes) (H2 .ensures .is .bytes) (c .before .before .before .before .before .before .before .before .before .before .before .before .before .before .either .result) told (c .before .before .before .before .before .before .before .before .before .before .before .before .if2 .left) (c .before .before .before .before .before .before .before .before .before .before .before .before .before .if1 .taken) true all) ∙ P .inv .1;
       turns = P .inv .0;
     }
 
