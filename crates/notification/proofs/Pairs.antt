@@ -185,14 +185,6 @@ module _ (device : Address) (s : List ℕ) (n : ℕ) (e : n ≡ descriptorSize s
   descriptor-miss h z = rw (from, one-descriptor h, z)
 
 -- ---- entries of a descriptor
-pub entry-some : (t : ℕ) → 0 < entrySize t
-unfolding entrySize pick
-entry-some t = go (eqb t 0x07)
-  where
-    go : (b : Bool) → 0 < pick b 6 12
-    go true = omega arith
-    go false = omega arith
-
 module _ (device : Address) (d a : List ℕ) (n : ℕ) (g : 0 < n) where
   pub no-entry : length a < n → any (hit device d) (cutOf (λ _. n) a .pieces) ≡ false
   unfolding any

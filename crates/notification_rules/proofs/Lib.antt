@@ -1,5 +1,6 @@
 pub mod Cuts
 pub mod Found
+pub mod Others
 pub mod Parts
 pub mod Pasts
 pub mod Pieces

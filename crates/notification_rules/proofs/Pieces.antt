@@ -115,3 +115,12 @@ covered-any device o (d ∷ ds) = go (covers device d) (covered-any device (o + 
         → isCover (pick b (by o) (coverFrom device (placed (o + length d) ds))) ≡ pick b true (any (covers device) ds)
     go true ih = refl
     go false ih = ih
+
+-- ---- entries
+pub entry-some : (t : ℕ) → 0 < entrySize t
+unfolding entrySize pick
+entry-some t = go (eqb t 0x07)
+  where
+    go : (b : Bool) → 0 < pick b 6 12
+    go true = omega arith
+    go false = omega arith

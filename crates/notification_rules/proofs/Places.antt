@@ -19,13 +19,13 @@ use Rattle.notification_rules.specs.declared.Notice.{Notice}
 use Rattle.notification_rules.specs.declared.Notice.the-variants.{Found, Nobody, Refused}
 use Rattle.notification_rules.specs.Cut.{Cut, cutOf, Part, part, placed, every}
 use Rattle.notification_rules.specs.Loop.{loopSize, descriptorSize, checked, loopCut, loopsOf, content, tag, bodyLength, descriptorPieces, descriptorsOf, Pair, pairsOf}
-use Rattle.notification_rules.specs.Target.{streamLocation, rightLength, Location, nowhere, at, located, orElse, locationOf}
+use Rattle.notification_rules.specs.Target.{streamLocation, rightLength, Location, nowhere, at, located}
 use Rattle.notification_rules.specs.Notice.{refusal, searched, noticeOf, known}
-use Rattle.notification_rules.specs.Right.{FirstAnswer, Stands, NineBytes, PlaceIsRight}
+use Rattle.notification_rules.specs.Right.{NoLocation, FirstLocation, FirstAnswer, Stands, NineBytes, PlaceIsRight}
 use Rattle.notification_rules.proofs.Pieces.{loops-stop, loop-two}
 use Rattle.notification_rules.proofs.Parts.{rejoined, descriptor-long, loop-long, every-one, placed-member, Between, placed-stands, stands-behind, stands-longer, stands-inside}
 use Rattle.notification_rules.proofs.Sound.{Sound, sound}
-use Rattle.notification_rules.proofs.Found.{found-exactly}
+use Rattle.notification_rules.proofs.Found.{found-exactly, location-at}
 
 -- ---- where the located descriptor comes from
 located-one : (ds : List Part) (d : Part) → located ds ≡ at d → List·Memᴰ d ds × (tag (d .bytes) ≡ streamLocation)
@@ -39,11 +39,6 @@ located-one (x ∷ xs) d h = go (eqb (tag (x .bytes)) streamLocation) refl h (lo
         let q : d ≡ x = cc in
         (List·Memᴰ·head q, ap (λ (y : Part). tag (y .bytes)) q ∙ eqb-true (tag (x .bytes)) streamLocation e)
     go false e h ih = let r = ih h in (List·Memᴰ·tail (r .0), r .1)
-
-either-one : (a b : Location) (d : Part) → orElse a b ≡ at d → (a ≡ at d) ⊎ (b ≡ at d)
-unfolding orElse
-either-one nowhere b d h = inr h
-either-one (at x) b d h = inl h
 
 pub operational-one : (ls : List Part) (x : Pair) → List·Memᴰ x (pairsOf ls) → List·Memᴰ (x .operational) ls
 unfolding pairsOf
@@ -133,8 +128,7 @@ not-refused device s p h = go (eqb (refusal s) 0) refl h
     go false e h = absurd (let z : _≡_ {A = ℕ} 0 1 = cc in omega arith)
 
 pub place-is-right : PlaceIsRight
-unfolding locationOf
-place-is-right device s p h = go (either-one _ _ (a .location) (a .located))
+place-is-right device s p h = go (a .located)
   where
     z : refusal s ≡ 0
     z = not-refused device s p h
@@ -142,12 +136,12 @@ place-is-right device s p h = go (either-one _ _ (a .location) (a .located))
     a : FirstAnswer device s p
     a = found-exactly device s p z .0 h
 
-    go : (located (descriptorsOf (a .pair .operational)) ≡ at (a .location)) ⊎ (located (descriptorsOf (a .platform)) ≡ at (a .location))
+    go : FirstLocation (a .pair .operational) (a .location) ⊎ (NoLocation (a .pair .operational) × FirstLocation (a .platform) (a .location))
         → (l : Part) × (d : Part) × NineBytes s l d × (p ≡ d .place + 2)
     go (inl e) =
         let m : List·Memᴰ (a .pair .operational) (loopsOf s) =
         rw (a .cut) (List·Memᴰ·tail (operational-one (a .loops) (a .pair) (rw (a .split) (split-one (a .earlier) (a .later) (a .pair))))) in
-        (a .pair .operational, a .location, nine-in s (a .pair .operational) (a .location) (sound s z) m e, a .place)
+        (a .pair .operational, a .location, nine-in s (a .pair .operational) (a .location) (sound s z) m (location-at (a .pair .operational) (a .location) e), a .place)
     go (inr e) =
         let m : List·Memᴰ (a .platform) (loopsOf s) = rw (a .cut) (List·Memᴰ·head refl) in
-        (a .platform, a .location, nine-in s (a .platform) (a .location) (sound s z) m e, a .place)
+        (a .platform, a .location, nine-in s (a .platform) (a .location) (sound s z) m (location-at (a .platform) (a .location) (e .1)), a .place)

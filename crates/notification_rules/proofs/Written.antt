@@ -2,17 +2,19 @@
 use Prim.Native.Nat.{ℕ, zero, suc, _+_, _*_, _-_, _/_, _%_, _^_, _≤_, _<_}
 use native.Mathlib.Omega.{arith}
 use native.Mathlib.Nat.{mod-eq-of-lt}
-use mathlib.Core.Path.{_≡_, refl, sym, ap, _∙_}
-use mathlib.Core.Bool.{Bool, true, false}
+use mathlib.Core.Path.{_≡_, refl, sym, ap, ap₂, _∙_}
+use mathlib.Core.Bool.{Bool, true, false, not}
 use mathlib.Core.List.{List, [], _∷_, _++_, append-assoc, append-nil, flatten, map, List·Memᴰ, List·Memᴰ·head, List·Memᴰ·tail}
 use lib.ListN.{length, take, drop, length-append}
 use lib.Seq.{take-at, drop-at}
 use Rattle.wire.specs.Bytes.{byteAt, numberAt, bytesOf}
 use Rattle.wire.proofs.Bytes.{length-bytesOf, numberAt-bytesOf}
+use Rattle.wire.specs.Choice.{both}
 use Rattle.rules.specs.Section.{crcPlace}
-use Rattle.notification_rules.specs.Cut.{Size, Cut, stop, more, cutOf}
-use Rattle.notification_rules.specs.Loop.{descriptorSize, loopSize, checked, loopCut}
-use Rattle.notification_rules.specs.Right.{descriptorWritten, loopWritten, DescriptorsCut, LoopsCut}
+use Rattle.notification_rules.specs.Cut.{Size, Cut, stop, more, cutOf, every, odd}
+use Rattle.notification_rules.specs.Loop.{descriptorSize, loopSize, checked, loopCut, content, filled}
+use Rattle.notification_rules.specs.Notice.{fits, misfit}
+use Rattle.notification_rules.specs.Right.{descriptorWritten, loopWritten, contentWritten, DescriptorsCut, LoopsCut, WrittenFits}
 use Rattle.notification_rules.proofs.Pieces.{descriptors-stop, descriptors-more, descriptor-two, loops-stop, loops-more, loop-two, stops, goes-on}
 
 -- ---- for any size and any way of writing
@@ -55,3 +57,30 @@ loops-cut front crc ls f c h =
     let t : take (length (front ++ (x ++ crc)) - 4) (front ++ (x ++ crc)) ≡ front ++ x =
     rw l (ap (λ (y : List ℕ). take (length (front ++ x)) y) (sym (append-assoc front x crc)) ∙ take-at (front ++ x) crc (length (front ++ x)) refl) in
     rw (t, drop-at front x 12 f) (loops-back ls h)
+
+-- ---- both
+odd-map : {A B : Type 0} (f : A → B) (xs : List A) → odd (map f xs) ≡ odd xs
+unfolding odd
+odd-map f [] = refl
+odd-map f (x ∷ xs) = ap not (odd-map f xs)
+
+written-filled : (ds : List (ℕ × List ℕ)) → filled (content (loopWritten (contentWritten ds))) ≡ true
+unfolding filled
+written-filled ds =
+    rw (drop-at (bytesOf 2 (0xF000 + length (contentWritten ds))) (contentWritten ds) 2 (length-bytesOf 2 (0xF000 + length (contentWritten ds))), descriptors-cut ds)
+
+every-filled : (ls : List (List (ℕ × List ℕ))) → every (λ l. filled (content l)) (map loopWritten (map contentWritten ls)) ≡ true
+unfolding every both
+every-filled [] = refl
+every-filled (l ∷ ls) = rw (written-filled l) (every-filled ls)
+
+both-true : (b : Bool) → both b true ≡ b
+unfolding both
+both-true true = refl
+both-true false = refl
+
+pub written-fits : WrittenFits
+unfolding misfit fits both
+written-fits front crc ls f c h =
+    let o : odd (map loopWritten (map contentWritten ls)) ≡ odd ls = odd-map loopWritten (map contentWritten ls) ∙ odd-map contentWritten ls in
+    ap not (ap fits (loops-cut front crc (map contentWritten ls) f c h) ∙ ap₂ both o (every-filled ls) ∙ both-true (odd ls))

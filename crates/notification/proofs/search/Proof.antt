@@ -1,7 +1,7 @@
 -- Outside: whole pairs stand from here on, and the first that answers is the same as from the start. Inside: what is left of a target loop, or of a descriptor, covers the device as the whole of it does.
-use Rattle.notification.proofs.Pairs.{first-whole, second-whole, next-turns, skips, hits, ends, located-test, answers-empty, answers-some, answers-nowhere, no-descriptor, descriptor-hit, descriptor-miss, entry-some, no-entry, entry-hit, entry-miss, covers-by}
+use Rattle.notification.proofs.Pairs.{first-whole, second-whole, next-turns, skips, hits, ends, located-test, answers-empty, answers-some, answers-nowhere, no-descriptor, descriptor-hit, descriptor-miss, no-entry, entry-hit, entry-miss, covers-by}
 use Rattle.notification.specs.Readers.{Turns, pairsFrom, pairAt, answersBy}
-use Rattle.notification_rules.proofs.Pieces.{descriptor-two}
+use Rattle.notification_rules.proofs.Pieces.{descriptor-two, entry-some}
 use Rattle.notification_rules.proofs.Cuts.{from}
 use Rattle.notification_rules.specs.Target.{covers, hit, firstPair}
 use Rattle.notification_rules.specs.Loop.{loopSize, descriptorPieces}
