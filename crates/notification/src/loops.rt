@@ -65,11 +65,11 @@ fn target_loop(s: &[u8], other: bool) -> u8
     if s.len() < size {
         return 32;
     }
-    let fault = descriptor_loop(&s[2..size], other);
-    if fault == 32 {
-        return 32;
+    let target = descriptor_loop(&s[2..size], other);
+    if target == 32 {
+        return target;
     }
-    operational_loop(&s[size..], fault == 33)
+    operational_loop(&s[size..], target == 33)
 }
 
 // An operational loop, which has to be there, and what follows it; the platform loop is read in the same way.
@@ -80,11 +80,11 @@ pub fn operational_loop(s: &[u8], other: bool) -> u8
     if s.len() < size {
         return 32;
     }
-    let fault = descriptor_loop(&s[2..size], other);
-    if fault == 32 {
-        return 32;
+    let operational = descriptor_loop(&s[2..size], other);
+    if operational == 32 {
+        return operational;
     }
-    target_loop(&s[size..], fault == 33)
+    target_loop(&s[size..], operational == 33)
 }
 
 // What stands behind the first k bytes; nothing where there are not as many.

@@ -133,7 +133,7 @@ operational-loop-returns-2 : (t : ℕ) → operational-loop-lts.Need-returns-2 (
   target-loop.Post,
 ) (operational-loop-at t) operational-loop.Post
 operational-loop-returns-2 t c =     let a = c .before .before .before .before .before .before .args in
-    loops-bad true (now (a .s)) (a .other) _ _ (c .before .before .before .before .loop-size .ensures .is) (omega arith) (c .before .descriptor-loop .ensures) (c .if2 .taken)
+    c .if2 .taken ∙ loops-bad true (now (a .s)) (a .other) _ _ (c .before .before .before .before .loop-size .ensures .is) (omega arith) (c .before .descriptor-loop .ensures) (c .if2 .taken)
 
 -- src/loops.rt:87:17
 operational-loop-sub-target-loop : (t : ℕ) → operational-loop-lts.Need-sub-target-loop (
@@ -310,7 +310,7 @@ target-loop-returns-3 : (t : ℕ) → target-loop-lts.Need-returns-3 (
   operational-loop.Post,
 ) (target-loop-at t) target-loop.Post
 target-loop-returns-3 t c =     let a = c .before .before .before .before .before .before .before .args in
-    loops-bad false (now (a .s)) (a .other) _ _ (c .before .before .before .before .loop-size .ensures .is) (omega arith) (c .before .descriptor-loop .ensures) (c .if3 .taken)
+    c .if3 .taken ∙ loops-bad false (now (a .s)) (a .other) _ _ (c .before .before .before .before .loop-size .ensures .is) (omega arith) (c .before .descriptor-loop .ensures) (c .if3 .taken)
 
 -- src/loops.rt:72:22
 target-loop-sub-operational-loop : (t : ℕ) → target-loop-lts.Need-sub-operational-loop (
