@@ -4,24 +4,23 @@ use native.Mathlib.Omega.{arith}
 use native.Mathlib.Decide.{decLe}
 use mathlib.Core.Path.{_≡_, refl, sym, ap, fun-ext, _∙_}
 use mathlib.Core.Bool.{Bool, true, false, not}
-use mathlib.Core.List.{List, [], _∷_, _++_, List·Memᴰ, List·Memᴰ·head, List·Memᴰ·tail}
-use lib.ListN.{length, take, drop, length-drop, drop-of-length-le}
+use mathlib.Core.List.{List, [], _∷_, List·Memᴰ, List·Memᴰ·head, List·Memᴰ·tail}
+use lib.ListN.{length, take, drop, length-drop}
 use lib.Dec.{eqb, ltb}
-use borrow.Author.Tests.{lt-ltb, le-ltb, eq-eqb, ne-eqb}
+use borrow.Author.Tests.{lt-ltb, le-ltb, ne-eqb}
 use denote.Ref.{RefT, now}
 use Rattle.wire.specs.Choice.{pick, both, either}
 use Rattle.wire.proofs.Choice.{never}
 use Rattle.rules.specs.declared.Address.{Address}
 use Rattle.notification_rules.specs.declared.Notice.{Notice}
-use Rattle.notification_rules.specs.declared.Notice.the-variants.{Found, Nobody, Refused}
-use Rattle.notification_rules.specs.Cut.{Cut, cutOf, stop, more, isNil, every, odd, Part, part, placed, Is}
-use Rattle.notification_rules.specs.Loop.{loopSize, checked, loopCut, loopsOf, content, filled, descriptorPieces, descriptorsOf, Pair, pairsOf}
-use Rattle.notification_rules.specs.Target.{isCover, coverOf, Location, nowhere, at, located, isLocation, orElse, locationOf, answers, Choice, none, one, firstPair}
+use Rattle.notification_rules.specs.declared.Notice.the-variants.{Nobody, Refused}
+use Rattle.notification_rules.specs.Cut.{Cut, cutOf, stop, more, isNil, odd, Part, part, placed, Is}
+use Rattle.notification_rules.specs.Loop.{loopSize, checked, loopCut, loopsOf, content, descriptorPieces, descriptorsOf, Pair}
+use Rattle.notification_rules.specs.Target.{isCover, coverOf, Location, nowhere, at, located, isLocation, orElse, locationOf, answers, one, firstPair}
 use Rattle.notification_rules.specs.Notice.{refusal, fits, found, chosen, searched, noticeOf, numberOf, partOf, Answered}
-use Rattle.notification_rules.specs.Right.{Stands, NineBytes}
 use Rattle.notification_rules.proofs.Pieces.{loop-two, loops-stop}
 use Rattle.notification_rules.proofs.Parts.{stands-behind, stands-bytes}
-use Rattle.notification_rules.proofs.Sound.{Sound, sound}
+use Rattle.notification_rules.proofs.Sound.{sound}
 use Rattle.notification_rules.proofs.Found.{unrefused, first-is}
 use Rattle.notification_rules.proofs.Places.{nine-in, operational-one, split-one}
 use Rattle.notification.specs.Readers.{loopAt, Turns, pairsFrom, pairAt, answersBy, choiceAt, Chosen, Picked}

@@ -1,14 +1,14 @@
 -- Where whole pairs stand up to the end, the first of them is two loops, and whole pairs stand behind it.
-use Prim.Native.Nat.{ℕ, zero, suc, _+_, _-_, _≤_, _<_}
+use Prim.Native.Nat.{ℕ, _+_, _-_, _≤_, _<_}
 use native.Mathlib.Omega.{arith}
 use native.Mathlib.Decide.{decLe}
 use mathlib.Core.Path.{_≡_, refl, sym, ap, ap₂, _∙_}
 use mathlib.Core.Bool.{Bool, true, false, not}
 use mathlib.Core.List.{List, [], _∷_}
-use lib.ListN.{length, take, drop, length-drop, drop-of-length-le}
+use lib.ListN.{length, take, drop, length-drop}
 use lib.Seq.{drop-drop, length-take-le}
 use lib.Dec.{eqb, ltb}
-use borrow.Author.Tests.{lt-ltb, le-ltb, eq-eqb, ne-eqb, not-false}
+use borrow.Author.Tests.{lt-ltb, le-ltb, ne-eqb, not-false}
 use denote.Ref.{RefT, now}
 use Rattle.wire.specs.Bytes.{byteAt}
 use Rattle.wire.specs.Choice.{pick, both, either}
@@ -16,9 +16,9 @@ use Rattle.wire.proofs.Choice.{never}
 use Rattle.rules.specs.declared.Address.{Address}
 use Rattle.notification_rules.specs.Cut.{Cut, cutOf, stop, more, isNil, any, odd, part, placed}
 use Rattle.notification_rules.specs.Loop.{loopSize, descriptorSize, content, Pair, pairsOf, descriptorsOf, descriptorPieces}
-use Rattle.notification_rules.specs.Target.{Location, nowhere, at, located, isLocation, Cover, isCover, coverOf, coverFrom, covers, hit, entrySize, entryBytes, entryPieces, Choice, none, one, firstPair}
+use Rattle.notification_rules.specs.Target.{Location, nowhere, at, located, isLocation, Cover, isCover, coverOf, covers, hit, entrySize, entryBytes, none, one, firstPair}
 use Rattle.notification_rules.proofs.Cuts.{from, nil-true, nil-false, nil-length}
-use Rattle.notification_rules.proofs.Pieces.{loop-two, loops-stop, loops-more, stops, goes-on, descriptors-stop, descriptors-more, covered-any, located-any}
+use Rattle.notification_rules.proofs.Pieces.{loop-two, loops-stop, loops-more, stops, goes-on, descriptors-stop, descriptors-more, covered-any}
 use Rattle.notification.proofs.Faults.{drop-take}
 use Rattle.notification.specs.Readers.{loopAt, Located, Turns, pairsFrom, pairAt, answersBy, choiceAt}
 

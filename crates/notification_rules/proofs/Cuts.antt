@@ -1,16 +1,16 @@
 -- A cut is a whole piece and the rest's cut, or nothing: the bound on the number of pieces never ends it, since each takes a byte at least.
-use Prim.Native.Nat.{ℕ, zero, suc, _+_, _-_, _≤_, _<_}
+use Prim.Native.Nat.{ℕ, zero, suc, _-_, _≤_, _<_}
 use mathlib.Core.Path.{_≡_, refl, sym, ap, _∙_}
 use mathlib.Core.Bool.{Bool, true, false, not}
-use mathlib.Core.List.{List, [], _∷_, _++_}
-use lib.ListN.{length, take, drop, length-drop, length-append}
-use lib.Seq.{take-all, length-take-le, take-at, drop-at}
+use mathlib.Core.List.{List, [], _∷_}
+use lib.ListN.{length, take, drop, length-drop}
+use lib.Seq.{take-all}
 use lib.Dec.{leb, ltb}
 use borrow.Author.Tests.{lt-ltb, le-leb, lt-leb, ltb-true, leb-true}
 use native.Mathlib.Omega.{arith}
 use Rattle.wire.specs.Choice.{pick, both}
 use Rattle.wire.proofs.Choice.{never}
-use Rattle.notification_rules.specs.Cut.{Size, Cut, stop, more, whole, run, cutOf, isNil}
+use Rattle.notification_rules.specs.Cut.{Size, stop, more, whole, run, cutOf, isNil}
 
 -- the part of a slice from k on is what `drop k` leaves
 pub from : (k : ℕ) (s : List ℕ) → take (length s - k) (drop k s) ≡ drop k s

@@ -3,15 +3,14 @@ use Prim.Native.Nat.{ℕ, _+_}
 use native.Mathlib.Omega.{arith}
 use mathlib.Core.Path.{_≡_, refl, sym, ap, _∙_}
 use mathlib.Core.Bool.{Bool, true, false}
-use mathlib.Core.Logic.{_⊎_, inl, inr, _↔_}
+use mathlib.Core.Logic.{_⊎_, inl, inr}
 use mathlib.Core.List.{List, [], _∷_, _++_, List·Memᴰ, List·Memᴰ·head, List·Memᴰ·tail, List·Memᴰ·not-nil, List·Memᴰ·cases-cons}
 use lib.Dec.{eqb}
 use borrow.Author.Tests.{eq-eqb, ne-eqb, eqb-true, eqb-false}
 use Rattle.wire.specs.Choice.{pick, both}
 use Rattle.wire.proofs.Choice.{never}
 use Rattle.rules.specs.declared.Address.{Address}
-use Rattle.notification_rules.specs.declared.Notice.{Notice}
-use Rattle.notification_rules.specs.declared.Notice.the-variants.{Found, Nobody, Refused}
+use Rattle.notification_rules.specs.declared.Notice.the-variants.{Found}
 use Rattle.notification_rules.specs.Cut.{isNil, Part}
 use Rattle.notification_rules.specs.Loop.{loopsOf, content, tag, descriptorsOf, Pair, pairsOf}
 use Rattle.notification_rules.specs.Target.{streamLocation, covers, by, coverFrom, Location, nowhere, at, located, isLocation, orElse, locationOf, isCover, coverOf, answers, Choice, none, one, firstPair}

@@ -1,22 +1,21 @@
 -- One descriptor, one loop, one entry and the rest: each law puts the cut's two cases into a definition, which then computes.
-use Prim.Native.Nat.{ℕ, zero, suc, _+_, _-_, _%_, _^_, _≤_, _<_}
-use mathlib.Core.Path.{_≡_, refl, sym, ap, ap₂, _∙_}
+use Prim.Native.Nat.{ℕ, _+_, _-_, _≤_, _<_}
+use mathlib.Core.Path.{_≡_, refl, ap, _∙_}
 use mathlib.Core.Bool.{Bool, true, false, not}
-use mathlib.Core.List.{List, [], _∷_, _++_}
-use lib.ListN.{length, take, drop, getD, length-drop}
-use lib.Seq.{getD-take, length-take-le, drop-drop}
+use mathlib.Core.List.{List, [], _∷_}
+use lib.ListN.{length, take, drop, getD}
+use lib.Seq.{getD-take, length-take-le}
 use lib.Dec.{eqb}
-use borrow.Author.Tests.{eq-eqb, ne-eqb}
 use native.Mathlib.Omega.{arith}
-use Rattle.wire.specs.Choice.{pick, both, either}
+use Rattle.wire.specs.Choice.{pick, both}
 use Rattle.wire.proofs.Choice.{never}
 use Rattle.wire.specs.Bytes.{byteAt}
 use Rattle.rules.specs.declared.Address.{Address}
-use Rattle.notification_rules.specs.Cut.{Size, Cut, stop, more, cutOf, isNil, every, any, odd, Part, part, placed}
-use Rattle.notification_rules.specs.Loop.{loopSize, descriptorSize, content, filled, tag, bodyLength, descriptorPieces, Pair, pairsOf, descriptorsOf}
-use Rattle.notification_rules.specs.Target.{rightLength, streamLocation, Location, nowhere, at, located, isLocation, Cover, nobody, by, coverFrom, isCover, coverOf, covers, entrySize, entryPieces, entryBytes}
+use Rattle.notification_rules.specs.Cut.{Size, Cut, stop, more, cutOf, isNil, every, any, part, placed}
+use Rattle.notification_rules.specs.Loop.{loopSize, descriptorSize, filled, tag, bodyLength, descriptorPieces}
+use Rattle.notification_rules.specs.Target.{rightLength, streamLocation, Location, nowhere, at, located, isLocation, Cover, by, coverFrom, isCover, covers, entrySize}
 use Rattle.notification_rules.specs.Notice.{known}
-use Rattle.notification_rules.proofs.Cuts.{whole-yes, whole-no, cut-stop, cut-more, nil-true, nil-false}
+use Rattle.notification_rules.proofs.Cuts.{whole-yes, whole-no, cut-stop, cut-more}
 
 pub loop-two : (s : List ℕ) → 2 ≤ loopSize s
 unfolding loopSize

@@ -1,5 +1,5 @@
 -- A located descriptor is one of a loop's pieces, the loop one of the section's; a 0x13 that 33 lets pass has nine bytes.
-use Prim.Native.Nat.{ℕ, _+_, _-_, _≤_, _<_}
+use Prim.Native.Nat.{ℕ, _+_, _-_, _≤_}
 use native.Mathlib.Omega.{arith}
 use native.Mathlib.Decide.{decLe}
 use mathlib.Core.Path.{_≡_, refl, sym, ap, _∙_}
@@ -10,20 +10,17 @@ use lib.ListN.{length, take, drop, length-take, length-drop, take-append-drop, d
 use lib.Seq.{length-take-le}
 use lib.Dec.{eqb}
 use borrow.Author.Tests.{eqb-true}
-use Rattle.wire.specs.Bytes.{byteAt}
-use Rattle.wire.specs.Choice.{pick, both}
-use Rattle.wire.proofs.Choice.{never}
+use Rattle.wire.specs.Choice.{pick}
 use Rattle.rules.specs.declared.Address.{Address}
 use Rattle.rules.specs.Section.{crcPlace}
-use Rattle.notification_rules.specs.declared.Notice.{Notice}
-use Rattle.notification_rules.specs.declared.Notice.the-variants.{Found, Nobody, Refused}
+use Rattle.notification_rules.specs.declared.Notice.the-variants.{Found, Refused}
 use Rattle.notification_rules.specs.Cut.{Cut, cutOf, Part, part, placed, every}
 use Rattle.notification_rules.specs.Loop.{loopSize, descriptorSize, checked, loopCut, loopsOf, content, tag, bodyLength, descriptorPieces, descriptorsOf, Pair, pairsOf}
-use Rattle.notification_rules.specs.Target.{streamLocation, rightLength, Location, nowhere, at, located}
+use Rattle.notification_rules.specs.Target.{streamLocation, rightLength, Location, at, located}
 use Rattle.notification_rules.specs.Notice.{refusal, searched, noticeOf, known}
 use Rattle.notification_rules.specs.Right.{NoLocation, FirstLocation, FirstAnswer, Stands, NineBytes, PlaceIsRight}
 use Rattle.notification_rules.proofs.Pieces.{loops-stop, loop-two}
-use Rattle.notification_rules.proofs.Parts.{rejoined, descriptor-long, loop-long, every-one, placed-member, Between, placed-stands, stands-behind, stands-longer, stands-inside}
+use Rattle.notification_rules.proofs.Parts.{rejoined, descriptor-long, loop-long, every-one, placed-member, placed-stands, stands-behind, stands-longer, stands-inside}
 use Rattle.notification_rules.proofs.Sound.{Sound, sound}
 use Rattle.notification_rules.proofs.Found.{found-exactly, location-at}
 

@@ -1,21 +1,19 @@
 -- Bytes that are pieces back to back, each as long as its size says, are cut back into these pieces.
-use Prim.Native.Nat.{ℕ, zero, suc, _+_, _*_, _-_, _/_, _%_, _^_, _≤_, _<_}
+use Prim.Native.Nat.{ℕ, _+_, _-_, _%_, _^_, _≤_, _<_}
 use native.Mathlib.Omega.{arith}
-use native.Mathlib.Nat.{mod-eq-of-lt}
 use mathlib.Core.Path.{_≡_, refl, sym, ap, ap₂, _∙_}
 use mathlib.Core.Bool.{Bool, true, false, not}
-use mathlib.Core.List.{List, [], _∷_, _++_, append-assoc, append-nil, flatten, map, List·Memᴰ, List·Memᴰ·head, List·Memᴰ·tail}
+use mathlib.Core.List.{List, [], _∷_, _++_, append-assoc, flatten, map, List·Memᴰ, List·Memᴰ·head, List·Memᴰ·tail}
 use lib.ListN.{length, take, drop, length-append}
 use lib.Seq.{take-at, drop-at}
-use Rattle.wire.specs.Bytes.{byteAt, numberAt, bytesOf}
+use Rattle.wire.specs.Bytes.{numberAt, bytesOf}
 use Rattle.wire.proofs.Bytes.{length-bytesOf, numberAt-bytesOf}
 use Rattle.wire.specs.Choice.{both}
-use Rattle.rules.specs.Section.{crcPlace}
-use Rattle.notification_rules.specs.Cut.{Size, Cut, stop, more, cutOf, every, odd}
-use Rattle.notification_rules.specs.Loop.{descriptorSize, loopSize, checked, loopCut, content, filled}
+use Rattle.notification_rules.specs.Cut.{Size, Cut, stop, cutOf, every, odd}
+use Rattle.notification_rules.specs.Loop.{descriptorSize, loopSize, loopCut, content, filled}
 use Rattle.notification_rules.specs.Notice.{fits, misfit}
 use Rattle.notification_rules.specs.Right.{descriptorWritten, loopWritten, contentWritten, DescriptorsCut, LoopsCut, WrittenFits}
-use Rattle.notification_rules.proofs.Pieces.{descriptors-stop, descriptors-more, descriptor-two, loops-stop, loops-more, loop-two, stops, goes-on}
+use Rattle.notification_rules.proofs.Pieces.{descriptor-two, loop-two, stops, goes-on}
 
 -- ---- for any size and any way of writing
 module _ (size : Size) (some : (s : List ℕ) → 0 < size s) {A : Type 0} (write : A → List ℕ) (good : A → Type 0)

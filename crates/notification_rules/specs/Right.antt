@@ -1,5 +1,5 @@
 -- What is right about the rules: theorems, shown in proofs/.
-use Prim.Native.Nat.{ℕ, _+_, _≤_, _<_}
+use Prim.Native.Nat.{ℕ, _+_, _≤_}
 use mathlib.Core.Path.{_≡_}
 use mathlib.Core.Bool.{Bool, true, false, not}
 use mathlib.Core.List.{List, [], _∷_, _++_, List·Memᴰ, flatten, map}
@@ -8,7 +8,6 @@ use lib.ListN.{length}
 use Rattle.wire.specs.Bytes.{byteAt, bytesOf}
 use Rattle.rules.specs.declared.Address.{Address}
 use Rattle.rules.specs.Section.{crcPlace}
-use Rattle.notification_rules.specs.declared.Notice.{Notice}
 use Rattle.notification_rules.specs.declared.Notice.the-variants.{Found}
 use Rattle.notification_rules.specs.Cut.{cutOf, isNil, odd, Part}
 use Rattle.notification_rules.specs.Loop.{descriptorSize, loopCut, loopsOf, content, tag, descriptorsOf, Pair, pairsOf}

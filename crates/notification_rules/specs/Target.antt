@@ -1,5 +1,5 @@
 -- Whom a target loop covers, and where its streams are: EN 301 192 V1.3.1, tables 24, 25 and 32; document 01, 'The INT section'.
-use Prim.Native.Nat.{ℕ, _+_, _%_}
+use Prim.Native.Nat.{ℕ, _%_}
 use mathlib.Core.Bool.{Bool, true, false}
 use mathlib.Core.List.{List, [], _∷_}
 use lib.ListN.{drop}
@@ -8,8 +8,8 @@ use lib.Dec.{leb, eqb}
 use Rattle.wire.specs.Bytes.{numberAt}
 use Rattle.wire.specs.Choice.{pick, both}
 use Rattle.rules.specs.declared.Address.{Address}
-use Rattle.notification_rules.specs.Cut.{cutOf, Part, placed, isNil, any}
-use Rattle.notification_rules.specs.Loop.{tag, bodyLength, body, content, descriptorsOf, Pair}
+use Rattle.notification_rules.specs.Cut.{cutOf, Part, isNil, any}
+use Rattle.notification_rules.specs.Loop.{tag, body, content, descriptorsOf, Pair}
 
 -- target_MAC_address_descriptor, target_MAC_address_range_descriptor, IP/MAC_stream_location_descriptor
 abbrev pub macAddress : ℕ

@@ -8,28 +8,21 @@ use Prim.Native.Nat.{ℕ, _-_}
 use borrow.Author.Needs.{needs}
 use Rattle.notification.proofs.checked.Statement.{statement}
 use Rattle.notification.proofs.checked.Tie as tie
-use Rattle.notification.proofs.checked.Reads as reads
-use Rattle.notification.proofs.checked.Lts as lts
 
--- src/lib.rt:63:9
 slice-aggregate-result : tie.Need-slice-aggregate-result
 slice-aggregate-result c = search needs
 
--- src/lib.rt:63:9
 returns : tie.Need-returns
-returns c =     let s = now (c .before .before .args .s) in
+returns c = let s = now (c .before .before .args .s) in
     let e : 0 ≡ length s - 4 = omega arith in
     record { bytes = ap (λ (k : ℕ). take k s) e; block = refl; place = omega arith }
 
--- src/lib.rt:65:10
 sub-result : tie.Need-sub-result
 sub-result c = search needs
 
--- src/lib.rt:65:5
 slice-aggregate-result-2 : tie.Need-slice-aggregate-result-2
 slice-aggregate-result-2 c = sym (length-take-le _ (now (c .before .before .args .s)) (omega arith))
 
--- src/lib.rt:59:1
 returns-2 : tie.Need-returns-2
 returns-2 c = record { bytes = refl; block = refl; place = omega arith }
 

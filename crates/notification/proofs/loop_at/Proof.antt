@@ -1,68 +1,52 @@
 -- The loop at the place begins with its two length bytes.
 use Rattle.notification.proofs.Pairs.{content-at, content-length}
-use Rattle.notification.specs.Readers.{loopAt}
-use Rattle.notification.proofs.Faults.{drop-take}
 use Rattle.notification_rules.proofs.Pieces.{loop-two}
 use Rattle.notification_rules.proofs.Cuts.{from}
 use Rattle.notification_rules.specs.Loop.{loopSize}
 use denote.Ref.{now}
-use lib.Seq.{length-take-le, drop-drop}
-use lib.ListN.{length, take, drop, length-drop}
-use mathlib.Core.Path.{_≡_, refl, sym, ap, _∙_}
+use lib.ListN.{length, drop}
+use mathlib.Core.Path.{_≡_, refl, _∙_}
 use native.Mathlib.Omega.{arith}
-use Prim.Native.Nat.{ℕ, _+_, _-_, _≤_}
+use Prim.Native.Nat.{_-_}
 use borrow.Author.Needs.{needs}
 use Rattle.notification.proofs.loop_at.Statement.{statement}
 use Rattle.notification.proofs.loop_at.Tie as tie
-use Rattle.notification.proofs.loop_at.Reads as reads
-use Rattle.notification.proofs.loop_at.Lts as lts
-use Rattle.notification.proofs.loops.loop_size.Reads as loop-size-reads
 
--- src/lib.rt:88:26
 sub-loop-size : tie.Need-sub-loop-size
 sub-loop-size c = search needs
 
--- src/lib.rt:88:26
 part-loop-size-start : tie.Need-part-loop-size-start
 part-loop-size-start c = search needs
 
--- src/lib.rt:88:26
 part-loop-size-end : tie.Need-part-loop-size-end
 part-loop-size-end c = search needs
 
--- src/lib.rt:88:9
 loop-size-requires : tie.Need-loop-size-requires
 loop-size-requires c κs = search needs
 
--- src/lib.rt:89:8
 add-result : tie.Need-add-result
 add-result c = search needs
 
--- src/lib.rt:89:16
 add-result-2 : tie.Need-add-result-2
 add-result-2 c = search needs
 
--- src/lib.rt:89:5
 sub-result : tie.Need-sub-result
-sub-result c =     let a = c .before .before .before .args in
+sub-result c = let a = c .before .before .before .args in
     let e : c .loop-size .result ≡ loopSize (drop (a .at) (now (a .s))) = c .loop-size .ensures .is ∙ rw (from (a .at) (now (a .s))) in
     omega (arith, loop-two (drop (a .at) (now (a .s))))
 
--- src/lib.rt:89:5
 part-result-start : tie.Need-part-result-start
-part-result-start c =     let a = c .before .before .before .args in
+part-result-start c = let a = c .before .before .before .args in
     let e : c .loop-size .result ≡ loopSize (drop (a .at) (now (a .s))) = c .loop-size .ensures .is ∙ rw (from (a .at) (now (a .s))) in
     omega (arith, loop-two (drop (a .at) (now (a .s))))
 
--- src/lib.rt:89:5
 part-result-end : tie.Need-part-result-end
-part-result-end c =     let a = c .before .before .before .args in
+part-result-end c = let a = c .before .before .before .args in
     let e : c .loop-size .result ≡ loopSize (drop (a .at) (now (a .s))) = c .loop-size .ensures .is ∙ rw (from (a .at) (now (a .s))) in
     omega (arith, c .before .before .before .pre)
 
--- src/lib.rt:84:1
 returns : tie.Need-returns
-returns c =     let a = c .before .before .before .before .args in
+returns c = let a = c .before .before .before .before .args in
     let n = c .before .loop-size .result in
     let e : n ≡ loopSize (drop (a .at) (now (a .s))) = c .before .loop-size .ensures .is ∙ rw (from (a .at) (now (a .s))) in
     record {

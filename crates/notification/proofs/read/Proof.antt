@@ -5,70 +5,52 @@ use Rattle.notification_rules.specs.Loop.{loopSize}
 use Rattle.wire.proofs.Choice.{was}
 use denote.Ref.{now}
 use lib.ListN.{length, drop}
-use mathlib.Core.Path.{_≡_, refl, sym, _∙_}
+use mathlib.Core.Path.{_≡_, refl, _∙_}
 use native.Mathlib.Omega.{arith}
 use Prim.Native.Nat.{ℕ, _+_, _≤_, _<_}
 use borrow.Author.Needs.{needs}
 use Rattle.notification.proofs.read.Statement.{statement}
 use Rattle.notification.proofs.read.Tie as tie
-use Rattle.notification.proofs.read.Reads as reads
-use Rattle.notification.proofs.read.Lts as lts
-use Rattle.notification.proofs.checked.Reads as checked-reads
-use Rattle.notification.proofs.location.location.Reads as location-reads
-use Rattle.notification.proofs.location.pick.Reads as pick-reads
-use Rattle.notification.proofs.loop_at.Reads as loop-at-reads
-use Rattle.notification.proofs.refusal.Reads as refusal-reads
-use Rattle.notification.proofs.search.Reads as search-reads
 
 below : (a b : ℕ) → a ≤ b → (a ≡ b → ⊥) → a < b
 below a b h n = omega arith
 
--- src/lib.rt:128:9
 refusal-requires : tie.Need-refusal-requires
 refusal-requires c κs = search needs
 
--- src/lib.rt:131:9
 slice-aggregate-result : tie.Need-slice-aggregate-result
 slice-aggregate-result c = search needs
 
--- src/lib.rt:131:9
 returns : tie.Need-returns
-returns c =     let A = c .before .before .before .before .args in
+returns c = let A = c .before .before .before .before .args in
     answered-refused (A .device) (A .s) _ _ (c .before .before .refusal .ensures) (c .before .if1 .taken) refl refl
 
--- src/lib.rt:133:9
 checked-requires : tie.Need-checked-requires
 checked-requires c κs = search needs
 
--- src/lib.rt:134:9
 loop-at-requires : tie.Need-loop-at-requires
-loop-at-requires c κs =     let A = c .before .before .before .before .args in
+loop-at-requires c κs = let A = c .before .before .before .before .args in
     let H = c .checked in
     let z = was (c .before .before .refusal .ensures) (c .before .if1 .left) in
     platform-whole (A .device) (now (A .s)) (now (H .result)) (H .ensures .bytes) z
 
--- src/lib.rt:135:19
 location-requires : tie.Need-location-requires
 location-requires c κs = search needs
 
--- src/lib.rt:136:35
 add-search : tie.Need-add-search
 add-search c = search needs
 
--- src/lib.rt:136:9
 search-requires : tie.Need-search-requires
-search-requires c κs =     let A = c .before .before .before .before .before .before .args in
+search-requires c κs = let A = c .before .before .before .before .before .before .args in
     let H = c .before .before .checked in
     let z = was (c .before .before .before .before .refusal .ensures) (c .before .before .before .if1 .left) in
     pairs-turns (A .device) (now (A .s)) (now (H .result)) (H .ensures .bytes) z (14 + length (now (c .before .loop-at .result))) (omega (arith, c .before .loop-at .ensures .size))
 
--- src/lib.rt:139:9
 slice-aggregate-result-2 : tie.Need-slice-aggregate-result-2
 slice-aggregate-result-2 c = search needs
 
--- src/lib.rt:139:9
 returns-2 : tie.Need-returns-2
-returns-2 c =     let A = c .before .before .before .before .before .before .before .before .before .args in
+returns-2 c = let A = c .before .before .before .before .before .before .before .before .before .args in
     let H = c .before .before .before .before .before .checked in
     let z = was (c .before .before .before .before .before .before .before .refusal .ensures) (c .before .before .before .before .before .before .if1 .left) in
     let L = c .before .before .before .before .loop-at in
@@ -76,39 +58,33 @@ returns-2 c =     let A = c .before .before .before .before .before .before .bef
     let g = located-test (H .result .ptr) _ _ (c .before .before .before .location .ensures (H .result .ptr) 14 (record { bytes = refl; block = L .ensures .is .block; place = L .ensures .is .place })) ∙ general-is (now (H .result)) (now (L .result)) (L .ensures .is .bytes) in
     answered-nobody (A .device) (A .s) _ (notice-nobody (A .device) (now (A .s)) (now (H .result)) (H .ensures .bytes) z _ n _ g _ (c .before .before .search .ensures) (c .before .if2 .taken)) refl refl
 
--- src/lib.rt:142:9
 loop-at-requires-2 : tie.Need-loop-at-requires-2
-loop-at-requires-2 c κs =     let A = c .before .before .before .before .before .before .before .before .args in
+loop-at-requires-2 c κs = let A = c .before .before .before .before .before .before .before .before .args in
     let H = c .before .before .before .before .checked in
     let z = was (c .before .before .before .before .before .before .refusal .ensures) (c .before .before .before .before .before .if1 .left) in
     let Q = c .before .search in
     let l : Q .result < length (now (H .result)) = below _ _ (Q .ensures .turns .inside) (c .if2 .left) in
     first-whole (now (H .result)) (Q .result) (Q .ensures .turns) l
 
--- src/lib.rt:143:24
 add-loop-at : tie.Need-add-loop-at
 add-loop-at c = search needs
 
--- src/lib.rt:143:24
 add-loop-at-2 : tie.Need-add-loop-at-2
 add-loop-at-2 c = search needs
 
--- src/lib.rt:143:10
 loop-at-requires-3 : tie.Need-loop-at-requires-3
-loop-at-requires-3 c κs =     let A = c .before .before .before .before .before .before .before .before .before .args in
+loop-at-requires-3 c κs = let A = c .before .before .before .before .before .before .before .before .before .args in
     let H = c .before .before .before .before .before .checked in
     let z = was (c .before .before .before .before .before .before .before .refusal .ensures) (c .before .before .before .before .before .before .if1 .left) in
     let Q = c .before .before .search in
     let l : Q .result < length (now (H .result)) = below _ _ (Q .ensures .turns .inside) (c .before .if2 .left) in
     second-whole (now (H .result)) (Q .result) (Q .ensures .turns) l _ (omega (arith, c .loop-at2 .ensures .size))
 
--- src/lib.rt:143:5
 pick-requires : tie.Need-pick-requires
 pick-requires c κs = search needs
 
--- src/lib.rt:125:1
 returns-3 : tie.Need-returns-3
-returns-3 c =     let A = c .before .before .before .before .before .before .before .before .before .before .before .args in
+returns-3 c = let A = c .before .before .before .before .before .before .before .before .before .before .before .args in
     let H = c .before .before .before .before .before .before .before .checked in
     let z = was (c .before .before .before .before .before .before .before .before .before .refusal .ensures) (c .before .before .before .before .before .before .before .before .if1 .left) in
     let L = c .before .before .before .before .before .before .loop-at in

@@ -16,44 +16,32 @@ use mathlib.Core.Logic.{⊎-elim}
 use mathlib.Core.Bool.{Bool, true, false}
 use mathlib.Core.Path.{_≡_, refl, sym, ap, _∙_}
 use native.Mathlib.Omega.{arith}
-use Prim.Native.Nat.{ℕ, _+_, _-_, _≤_, _<_}
+use Prim.Native.Nat.{_+_, _-_}
 use Rattle.notification.proofs.search.Statement.{statement}
 use Rattle.notification.proofs.search.Tie as tie
-use Rattle.notification.proofs.search.Reads as reads
-use Rattle.notification.proofs.search.Lts as lts
-use Rattle.notification.proofs.location.location.Reads as location-reads
-use Rattle.notification.proofs.loop_at.Reads as loop-at-reads
-use Rattle.notification.proofs.loops.descriptor_size.Reads as descriptor-size-reads
-use Rattle.notification.proofs.target.entry_bytes.Reads as entry-bytes-reads
-use Rattle.notification.proofs.target.entry_size.Reads as entry-size-reads
-use Rattle.notification.proofs.target.hit.Reads as hit-reads
-use Rattle.wire.proofs.byte_at.Reads as byte-at-reads
-use Rattle.wire.proofs.either.Reads as either-reads
 
 abbrev Inv-addresses : tie.InvT-addresses
-Inv-addresses device s from general at target operational rest size descriptor step addresses₀ addresses =     any (hit device descriptor) (cutOf (λ _. step) addresses .pieces) ≡ any (hit device descriptor) (cutOf (λ _. step) addresses₀ .pieces)
+Inv-addresses device s from general at target operational rest size descriptor step addresses₀ addresses = any (hit device descriptor) (cutOf (λ _. step) addresses .pieces) ≡ any (hit device descriptor) (cutOf (λ _. step) addresses₀ .pieces)
 
 abbrev μ-addresses : tie.MeasureT-addresses
-μ-addresses device s from general at target operational rest size descriptor step addresses₀ addresses =     length addresses
+μ-addresses device s from general at target operational rest size descriptor step addresses₀ addresses = length addresses
 
 abbrev Inv-descriptors : tie.InvT-descriptors
-Inv-descriptors device s from general at target operational rest₀ rest =     any (covers device) (descriptorPieces rest) ≡ any (covers device) (descriptorPieces target)
+Inv-descriptors device s from general at target operational rest₀ rest = any (covers device) (descriptorPieces rest) ≡ any (covers device) (descriptorPieces target)
 
 abbrev μ-descriptors : tie.MeasureT-descriptors
 μ-descriptors device s from general at target operational rest₀ rest = length rest
 
 abbrev Inv-pairs : tie.InvT-pairs
-Inv-pairs device s from general at₀ at =     Turns s at × (firstPair (answersBy device general) (pairsFrom s at) ≡ firstPair (answersBy device general) (pairsFrom s from))
+Inv-pairs device s from general at₀ at = Turns s at × (firstPair (answersBy device general) (pairsFrom s at) ≡ firstPair (answersBy device general) (pairsFrom s from))
 
 abbrev μ-pairs : tie.MeasureT-pairs
 μ-pairs device s from general at₀ at = length s - at
 
--- src/lib.rt:98:5
 pairs-holds :
     tie.Need-pairs-holds Inv-addresses μ-addresses Inv-descriptors μ-descriptors Inv-pairs μ-pairs
 pairs-holds c = (c .before .pre, refl)
 
--- src/lib.rt:99:13
 loop-at-requires :
     tie.Need-loop-at-requires
     Inv-addresses
@@ -64,14 +52,12 @@ loop-at-requires :
     μ-pairs
 loop-at-requires c κs = first-whole (now (c .before .before .before .args .s)) (c .before .pairs .at) (c .before .pairs .inv .0) (c .pairs-test .taken)
 
--- src/lib.rt:100:38
 add-loop-at :
     tie.Need-add-loop-at Inv-addresses μ-addresses Inv-descriptors μ-descriptors Inv-pairs μ-pairs
-add-loop-at c =     let P = c .before .before .pairs in
+add-loop-at c = let P = c .before .before .pairs in
     let w = first-whole (now (c .before .before .before .before .args .s)) (P .at) (P .inv .0) (c .before .pairs-test .taken) in
     omega (arith, c .loop-at .ensures .size)
 
--- src/lib.rt:100:38
 add-loop-at-2 :
     tie.Need-add-loop-at-2
     Inv-addresses
@@ -80,11 +66,10 @@ add-loop-at-2 :
     μ-descriptors
     Inv-pairs
     μ-pairs
-add-loop-at-2 c =     let P = c .before .before .pairs in
+add-loop-at-2 c = let P = c .before .before .pairs in
     let w = first-whole (now (c .before .before .before .before .args .s)) (P .at) (P .inv .0) (c .before .pairs-test .taken) in
     omega (arith, c .loop-at .ensures .size)
 
--- src/lib.rt:100:13
 loop-at-requires-2 :
     tie.Need-loop-at-requires-2
     Inv-addresses
@@ -93,12 +78,11 @@ loop-at-requires-2 :
     μ-descriptors
     Inv-pairs
     μ-pairs
-loop-at-requires-2 c κs =     let S = now (c .before .before .before .before .args .s) in
+loop-at-requires-2 c κs = let S = now (c .before .before .before .before .args .s) in
     let P = c .before .before .pairs in
     let H1 = c .loop-at in
     second-whole S (P .at) (P .inv .0) (c .before .pairs-test .taken) (P .at + 2 + length (now (H1 .result))) (omega (arith, H1 .ensures .size))
 
--- src/lib.rt:101:19
 location-requires :
     tie.Need-location-requires
     Inv-addresses
@@ -109,7 +93,6 @@ location-requires :
     μ-pairs
 location-requires c κs = search needs
 
--- src/lib.rt:101:12
 either-requires :
     tie.Need-either-requires
     Inv-addresses
@@ -120,7 +103,6 @@ either-requires :
     μ-pairs
 either-requires c κs = search needs
 
--- src/lib.rt:106:13
 descriptors-holds :
     tie.Need-descriptors-holds
     Inv-addresses
@@ -131,7 +113,6 @@ descriptors-holds :
     μ-pairs
 descriptors-holds c = refl
 
--- src/lib.rt:107:21
 descriptor-size-requires :
     tie.Need-descriptor-size-requires
     Inv-addresses
@@ -142,7 +123,6 @@ descriptor-size-requires :
     μ-pairs
 descriptor-size-requires c κs = search needs
 
--- src/lib.rt:111:21
 slice-aggregate-descriptor :
     tie.Need-slice-aggregate-descriptor
     Inv-addresses
@@ -153,7 +133,6 @@ slice-aggregate-descriptor :
     μ-pairs
 slice-aggregate-descriptor c = sym (length-take-le _ (now (c .before .before .before .descriptors .rest)) (omega (arith, c .before .if3 .left)))
 
--- src/lib.rt:112:39
 byte-at-requires :
     tie.Need-byte-at-requires
     Inv-addresses
@@ -164,7 +143,6 @@ byte-at-requires :
     μ-pairs
 byte-at-requires c κs = search needs
 
--- src/lib.rt:112:21
 entry-size-requires :
     tie.Need-entry-size-requires
     Inv-addresses
@@ -175,7 +153,6 @@ entry-size-requires :
     μ-pairs
 entry-size-requires c κs = search needs
 
--- src/lib.rt:113:21
 entry-bytes-requires :
     tie.Need-entry-bytes-requires
     Inv-addresses
@@ -186,7 +163,6 @@ entry-bytes-requires :
     μ-pairs
 entry-bytes-requires c κs = search needs
 
--- src/lib.rt:114:17
 addresses-holds :
     tie.Need-addresses-holds
     Inv-addresses
@@ -197,7 +173,6 @@ addresses-holds :
     μ-pairs
 addresses-holds c = refl
 
--- src/lib.rt:115:48
 slice-aggregate-hit :
     tie.Need-slice-aggregate-hit
     Inv-addresses
@@ -208,12 +183,10 @@ slice-aggregate-hit :
     μ-pairs
 slice-aggregate-hit c = sym (length-take-le _ (now (c .before .before .addresses .addresses)) (c .before .addresses-test .taken))
 
--- src/lib.rt:115:24
 hit-requires :
     tie.Need-hit-requires Inv-addresses μ-addresses Inv-descriptors μ-descriptors Inv-pairs μ-pairs
 hit-requires c κs = search needs
 
--- src/lib.rt:118:33
 sub-addresses :
     tie.Need-sub-addresses
     Inv-addresses
@@ -224,7 +197,6 @@ sub-addresses :
     μ-pairs
 sub-addresses c = c .before .before .before .addresses-test .taken
 
--- src/lib.rt:118:33
 part-addresses-start :
     tie.Need-part-addresses-start
     Inv-addresses
@@ -235,7 +207,6 @@ part-addresses-start :
     μ-pairs
 part-addresses-start c = search needs
 
--- src/lib.rt:118:33
 part-addresses-end :
     tie.Need-part-addresses-end
     Inv-addresses
@@ -246,7 +217,6 @@ part-addresses-end :
     μ-pairs
 part-addresses-end c = search needs
 
--- src/lib.rt:114:17
 addresses-less :
     tie.Need-addresses-less
     Inv-addresses
@@ -257,7 +227,6 @@ addresses-less :
     μ-pairs
 addresses-less c = rw from (simp length-drop (omega (arith, c .before .before .before .before .addresses-test .taken, entry-some (c .before .before .before .before .before .before .before .before .byte-at .result), c .before .before .before .before .before .before .before .entry-size .ensures)))
 
--- src/lib.rt:114:17
 addresses-again :
     tie.Need-addresses-again
     Inv-addresses
@@ -266,16 +235,14 @@ addresses-again :
     μ-descriptors
     Inv-pairs
     μ-pairs
-addresses-again c =     entry-miss (c .before .before .before .before .before .before .before .before .before .before .before .before .before .before .before .before .before .before .before .before .before .before .args .device) (take (c .before .before .before .before .before .before .before .before .before .before .before .descriptor-size .result) (now (c .before .before .before .before .before .before .before .before .before .before .before .before .descriptors .rest))) (now (c .before .before .before .before .before .addresses .addresses)) (c .before .before .before .before .before .before .before .entry-size .result)
+addresses-again c = entry-miss (c .before .before .before .before .before .before .before .before .before .before .before .before .before .before .before .before .before .before .before .before .before .before .args .device) (take (c .before .before .before .before .before .before .before .before .before .before .before .descriptor-size .result) (now (c .before .before .before .before .before .before .before .before .before .before .before .before .descriptors .rest))) (now (c .before .before .before .before .before .addresses .addresses)) (c .before .before .before .before .before .before .before .entry-size .result)
     (omega (arith, entry-some (c .before .before .before .before .before .before .before .before .byte-at .result), c .before .before .before .before .before .before .before .entry-size .ensures)) (c .before .before .before .before .addresses-test .taken) (was (c .before .before .hit .ensures) (c .before .if4 .left))
     ∙ c .before .before .before .before .before .addresses .inv
 
--- src/lib.rt:120:24
 sub-rest :
     tie.Need-sub-rest Inv-addresses μ-addresses Inv-descriptors μ-descriptors Inv-pairs μ-pairs
 sub-rest c = omega (arith, c .before .before .before .before .before .before .if3 .left)
 
--- src/lib.rt:120:24
 part-rest-start :
     tie.Need-part-rest-start
     Inv-addresses
@@ -286,7 +253,6 @@ part-rest-start :
     μ-pairs
 part-rest-start c = search needs
 
--- src/lib.rt:120:24
 part-rest-end :
     tie.Need-part-rest-end
     Inv-addresses
@@ -297,7 +263,6 @@ part-rest-end :
     μ-pairs
 part-rest-end c = search needs
 
--- src/lib.rt:106:13
 descriptors-less :
     tie.Need-descriptors-less
     Inv-addresses
@@ -308,7 +273,6 @@ descriptors-less :
     μ-pairs
 descriptors-less c = rw from (simp length-drop (omega (arith, c .before .before .before .before .before .before .before .if3 .left, descriptor-two (now (c .before .before .before .before .before .before .before .before .before .descriptors .rest)), c .before .before .before .before .before .before .before .before .descriptor-size .ensures .is)))
 
--- src/lib.rt:106:13
 descriptors-again :
     tie.Need-descriptors-again
     Inv-addresses
@@ -317,7 +281,7 @@ descriptors-again :
     μ-descriptors
     Inv-pairs
     μ-pairs
-descriptors-again c =     let R = now (c .before .before .before .before .before .before .before .before .before .descriptors .rest) in
+descriptors-again c = let R = now (c .before .before .before .before .before .before .before .before .before .descriptors .rest) in
     let n = c .before .before .before .before .before .before .before .before .descriptor-size .result in
     let d = take n R in
     let D = c .before .before .before .before .before .before .before .before .before .before .before .before .before .before .before .before .before .before .before .args .device in
@@ -326,9 +290,8 @@ descriptors-again c =     let R = now (c .before .before .before .before .before
     (sym (c .before .before .addresses .inv) ∙ no-entry D d _ _ (omega (arith, entry-some (c .before .before .before .before .before .byte-at .result), c .before .before .before .before .entry-size .ensures)) (c .before .addresses-test .left)))
     ∙ c .before .before .before .before .before .before .before .before .before .descriptors .inv
 
--- src/lib.rt:123:14
 add-at : tie.Need-add-at Inv-addresses μ-addresses Inv-descriptors μ-descriptors Inv-pairs μ-pairs
-add-at c =     let A = c .before .before .before .before .before .before .before .before .args in
+add-at c = let A = c .before .before .before .before .before .before .before .before .args in
     let S = now (A .s) in
     let P = c .before .before .before .before .before .before .pairs in
     let H1 = c .before .before .before .before .loop-at in
@@ -338,10 +301,9 @@ add-at c =     let A = c .before .before .before .before .before .before .before
     let w2 = second-whole S (P .at) (P .inv .0) (c .before .before .before .before .before .pairs-test .taken) _ e in
     omega (arith, H1 .ensures .size, H2 .ensures .size)
 
--- src/lib.rt:123:14
 add-at-2 :
     tie.Need-add-at-2 Inv-addresses μ-addresses Inv-descriptors μ-descriptors Inv-pairs μ-pairs
-add-at-2 c =     let A = c .before .before .before .before .before .before .before .before .args in
+add-at-2 c = let A = c .before .before .before .before .before .before .before .before .args in
     let S = now (A .s) in
     let P = c .before .before .before .before .before .before .pairs in
     let H1 = c .before .before .before .before .loop-at in
@@ -351,10 +313,9 @@ add-at-2 c =     let A = c .before .before .before .before .before .before .befo
     let w2 = second-whole S (P .at) (P .inv .0) (c .before .before .before .before .before .pairs-test .taken) _ e in
     omega (arith, H1 .ensures .size, H2 .ensures .size)
 
--- src/lib.rt:123:14
 add-at-3 :
     tie.Need-add-at-3 Inv-addresses μ-addresses Inv-descriptors μ-descriptors Inv-pairs μ-pairs
-add-at-3 c =     let A = c .before .before .before .before .before .before .before .before .args in
+add-at-3 c = let A = c .before .before .before .before .before .before .before .before .args in
     let S = now (A .s) in
     let P = c .before .before .before .before .before .before .pairs in
     let H1 = c .before .before .before .before .loop-at in
@@ -364,10 +325,9 @@ add-at-3 c =     let A = c .before .before .before .before .before .before .befo
     let w2 = second-whole S (P .at) (P .inv .0) (c .before .before .before .before .before .pairs-test .taken) _ e in
     omega (arith, H1 .ensures .size, H2 .ensures .size)
 
--- src/lib.rt:98:5
 pairs-less :
     tie.Need-pairs-less Inv-addresses μ-addresses Inv-descriptors μ-descriptors Inv-pairs μ-pairs
-pairs-less c =     let A = c .before .before .before .before .before .before .before .before .args in
+pairs-less c = let A = c .before .before .before .before .before .before .before .before .args in
     let S = now (A .s) in
     let P = c .before .before .before .before .before .before .pairs in
     let H1 = c .before .before .before .before .loop-at in
@@ -377,10 +337,9 @@ pairs-less c =     let A = c .before .before .before .before .before .before .be
     let w2 = second-whole S (P .at) (P .inv .0) (c .before .before .before .before .before .pairs-test .taken) _ e in
     omega (arith, H1 .ensures .size, H2 .ensures .size, c .before .before .before .before .before .pairs-test .taken)
 
--- src/lib.rt:98:5
 pairs-again :
     tie.Need-pairs-again Inv-addresses μ-addresses Inv-descriptors μ-descriptors Inv-pairs μ-pairs
-pairs-again c =     let A = c .before .before .before .before .before .before .before .before .args in
+pairs-again c = let A = c .before .before .before .before .before .before .before .before .args in
     let S = now (A .s) in
     let P = c .before .before .before .before .before .before .pairs in
     let H1 = c .before .before .before .before .loop-at in
@@ -396,20 +355,18 @@ pairs-again c =     let A = c .before .before .before .before .before .before .b
     (c .if1 .came) in
     (next-turns S (P .at) (P .inv .0) (c .before .before .before .before .before .pairs-test .taken) _ e _ f, skips S (P .at) (P .inv .0) (c .before .before .before .before .before .pairs-test .taken) _ e _ f (answersBy (A .device) (A .general)) silent ∙ P .inv .1)
 
--- src/lib.rt:93:1
 returns :
     tie.Need-returns Inv-addresses μ-addresses Inv-descriptors μ-descriptors Inv-pairs μ-pairs
-returns c =     let A = c .before .before .before .args in
+returns c = let A = c .before .before .before .args in
     let P = c .before .pairs in
     record {
       first = ends (now (A .s)) (P .at) (answersBy (A .device) (A .general)) (P .inv .0 .inside) (omega (arith, c .pairs-test .left)) ∙ P .inv .1;
       turns = P .inv .0;
     }
 
--- src/lib.rt:93:1
 returns-2 :
     tie.Need-returns-2 Inv-addresses μ-addresses Inv-descriptors μ-descriptors Inv-pairs μ-pairs
-returns-2 c =     let A = c .before .before .before .before .before .before .before .before .before .args in
+returns-2 c = let A = c .before .before .before .before .before .before .before .before .before .args in
     let S = now (A .s) in
     let P = c .before .before .before .before .before .before .before .pairs in
     let H1 = c .before .before .before .before .before .loop-at in
@@ -423,10 +380,9 @@ returns-2 c =     let A = c .before .before .before .before .before .before .bef
       turns = P .inv .0;
     }
 
--- src/lib.rt:93:1
 returns-3 :
     tie.Need-returns-3 Inv-addresses μ-addresses Inv-descriptors μ-descriptors Inv-pairs μ-pairs
-returns-3 c =     let A = c .before .before .before .before .before .before .before .before .before .before .before .before .before .before .before .before .before .before .before .before .before .args in
+returns-3 c = let A = c .before .before .before .before .before .before .before .before .before .before .before .before .before .before .before .before .before .before .before .before .before .args in
     let S = now (A .s) in
     let P = c .before .before .before .before .before .before .before .before .before .before .before .before .before .before .before .before .before .before .before .pairs in
     let H1 = c .before .before .before .before .before .before .before .before .before .before .before .before .before .before .before .before .before .loop-at in

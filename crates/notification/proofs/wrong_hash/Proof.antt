@@ -4,27 +4,19 @@ use Rattle.notification_rules.specs.Notice.{wrongHash}
 use borrow.Author.Needs.{needs}
 use Rattle.notification.proofs.wrong_hash.Statement.{statement}
 use Rattle.notification.proofs.wrong_hash.Tie as tie
-use Rattle.notification.proofs.wrong_hash.Reads as reads
-use Rattle.notification.proofs.wrong_hash.Lts as lts
-use Rattle.wire.proofs.byte_at.Reads as byte-at-reads
 
--- src/lib.rt:48:5
 byte-at-requires : tie.Need-byte-at-requires
 byte-at-requires c κs = search needs
 
--- src/lib.rt:48:22
 byte-at-requires-2 : tie.Need-byte-at-requires-2
 byte-at-requires-2 c κs = search needs
 
--- src/lib.rt:48:38
 byte-at-requires-3 : tie.Need-byte-at-requires-3
 byte-at-requires-3 c κs = search needs
 
--- src/lib.rt:48:54
 byte-at-requires-4 : tie.Need-byte-at-requires-4
 byte-at-requires-4 c κs = search needs
 
--- src/lib.rt:45:1
 returns : tie.Need-returns
 unfolding wrongHash platformIdHash
 returns c = rw (c .byte-at4 .ensures .is, c .before .byte-at3 .ensures .is, c .before .before .byte-at2 .ensures .is, c .before .before .before .byte-at .ensures .is)

@@ -5,7 +5,7 @@ use lib.Seq.{length-take-le}
 use Rattle.wire.proofs.Choice.{was}
 use Rattle.notification.proofs.Locations.{found-stop, found-here, found-more}
 use denote.Ref.{now}
-use mathlib.Core.Path.{_≡_, refl, sym, ap, _∙_}
+use mathlib.Core.Path.{refl, sym, _∙_}
 use lib.ListN.{length, take, drop, length-drop}
 use native.Mathlib.Omega.{arith}
 use borrow.Author.Needs.{needs}
@@ -30,7 +30,6 @@ abbrev location-below : ℕ → In 1 location-kinds.ps
 location-below t =
     and 1 location-kinds.ps (falls 1 location-kinds.ps _<_ μ-location t) location.Pre
 
--- src/location.rt:11:9
 location-descriptor-size-requires : (t : ℕ) → location-lts.Need-descriptor-size-requires (
   descriptor-size-reads.Asked,
   descriptor-size-reads.Learnt,
@@ -41,7 +40,6 @@ location-descriptor-size-requires : (t : ℕ) → location-lts.Need-descriptor-s
 ) (location-at t) location.Post
 location-descriptor-size-requires t c κs = search needs
 
--- src/location.rt:13:9
 location-slice-aggregate-result : (t : ℕ) → location-lts.Need-slice-aggregate-result (
   descriptor-size-reads.Asked,
   descriptor-size-reads.Learnt,
@@ -52,7 +50,6 @@ location-slice-aggregate-result : (t : ℕ) → location-lts.Need-slice-aggregat
 ) (location-at t) location.Post
 location-slice-aggregate-result t c = search needs
 
--- src/location.rt:13:9
 location-returns : (t : ℕ) → location-lts.Need-returns (
   descriptor-size-reads.Asked,
   descriptor-size-reads.Learnt,
@@ -63,7 +60,6 @@ location-returns : (t : ℕ) → location-lts.Need-returns (
 ) (location-at t) location.Post
 location-returns t c = λ start o i. found-stop start o _ (now (c .before .before .before .before .args .s)) _ (c .before .before .descriptor-size .ensures .is) (c .before .if1 .taken) refl
 
--- src/location.rt:15:8
 location-byte-at-requires : (t : ℕ) → location-lts.Need-byte-at-requires (
   descriptor-size-reads.Asked,
   descriptor-size-reads.Learnt,
@@ -74,7 +70,6 @@ location-byte-at-requires : (t : ℕ) → location-lts.Need-byte-at-requires (
 ) (location-at t) location.Post
 location-byte-at-requires t c κs = search needs
 
--- src/location.rt:16:9
 location-slice-aggregate-result-2 : (t : ℕ) → location-lts.Need-slice-aggregate-result-2 (
   descriptor-size-reads.Asked,
   descriptor-size-reads.Learnt,
@@ -85,7 +80,6 @@ location-slice-aggregate-result-2 : (t : ℕ) → location-lts.Need-slice-aggreg
 ) (location-at t) location.Post
 location-slice-aggregate-result-2 t c = sym (length-take-le _ (now (c .before .before .before .before .before .before .args .s)) (omega arith))
 
--- src/location.rt:16:9
 location-returns-2 : (t : ℕ) → location-lts.Need-returns-2 (
   descriptor-size-reads.Asked,
   descriptor-size-reads.Learnt,
@@ -94,11 +88,10 @@ location-returns-2 : (t : ℕ) → location-lts.Need-returns-2 (
   location-below t,
   location.Post,
 ) (location-at t) location.Post
-location-returns-2 t c =     λ start o i. found-here start o _ (now (c .before .before .before .before .before .before .args .s)) _ (c .before .before .before .before .descriptor-size .ensures .is) (omega arith)
+location-returns-2 t c = λ start o i. found-here start o _ (now (c .before .before .before .before .before .before .args .s)) _ (c .before .before .before .before .descriptor-size .ensures .is) (omega arith)
     (was (c .before .before .byte-at .ensures .is) (c .before .if2 .taken))
     (record { bytes = refl; block = i .block; place = i .place })
 
--- src/location.rt:18:14
 location-sub-location : (t : ℕ) → location-lts.Need-sub-location (
   descriptor-size-reads.Asked,
   descriptor-size-reads.Learnt,
@@ -109,7 +102,6 @@ location-sub-location : (t : ℕ) → location-lts.Need-sub-location (
 ) (location-at t) location.Post
 location-sub-location t c = search needs
 
--- src/location.rt:18:14
 location-part-location-start : (t : ℕ) → location-lts.Need-part-location-start (
   descriptor-size-reads.Asked,
   descriptor-size-reads.Learnt,
@@ -120,7 +112,6 @@ location-part-location-start : (t : ℕ) → location-lts.Need-part-location-sta
 ) (location-at t) location.Post
 location-part-location-start t c = search needs
 
--- src/location.rt:18:14
 location-part-location-end : (t : ℕ) → location-lts.Need-part-location-end (
   descriptor-size-reads.Asked,
   descriptor-size-reads.Learnt,
@@ -131,7 +122,6 @@ location-part-location-end : (t : ℕ) → location-lts.Need-part-location-end (
 ) (location-at t) location.Post
 location-part-location-end t c = search needs
 
--- src/location.rt:18:5
 location-location-requires : (t : ℕ) → location-lts.Need-location-requires (
   descriptor-size-reads.Asked,
   descriptor-size-reads.Learnt,
@@ -142,7 +132,6 @@ location-location-requires : (t : ℕ) → location-lts.Need-location-requires (
 ) (location-at t) location.Post
 location-location-requires t c κs = (rw from (simp length-drop (omega (arith, descriptor-two (now (c .before .before .before .before .before .before .args .s)), c .before .before .before .before .descriptor-size .ensures .is))), tt)
 
--- src/location.rt:8:1
 location-returns-3 : (t : ℕ) → location-lts.Need-returns-3 (
   descriptor-size-reads.Asked,
   descriptor-size-reads.Learnt,
@@ -151,7 +140,7 @@ location-returns-3 : (t : ℕ) → location-lts.Need-returns-3 (
   location-below t,
   location.Post,
 ) (location-at t) location.Post
-location-returns-3 t c =     λ start o i. found-more start o _ (now (c .before .before .before .before .before .before .before .args .s)) _ (c .before .before .before .before .before .descriptor-size .ensures .is) (omega arith)
+location-returns-3 t c = λ start o i. found-more start o _ (now (c .before .before .before .before .before .before .before .args .s)) _ (c .before .before .before .before .before .descriptor-size .ensures .is) (omega arith)
     (λ z. c .before .before .if2 .left (c .before .before .before .byte-at .ensures .is ∙ z))
     (c .location .ensures start _ (record { bytes = refl; block = i .block; place = omega (arith, i .place) }))
 

@@ -3,7 +3,7 @@ use Rattle.notification_rules.proofs.Pieces.{descriptor-two}
 use Rattle.notification_rules.proofs.Cuts.{from}
 use Rattle.notification.proofs.Faults.{fault-end, fault-stop, fault-more}
 use denote.Ref.{now}
-use mathlib.Core.Path.{_≡_, refl, sym, ap, _∙_}
+use mathlib.Core.Path.{_∙_}
 use lib.ListN.{length, take, drop, length-drop}
 use native.Mathlib.Omega.{arith}
 use borrow.Author.Needs.{needs}
@@ -40,7 +40,6 @@ descriptor-loop-below t =
     (falls 1 descriptor-loop-kinds.ps _<_ μ-descriptor-loop t)
     descriptor-loop.Pre
 
--- src/loops.rt:47:9
 descriptor-loop-first-requires : (t : ℕ) → descriptor-loop-lts.Need-first-requires (
   first-reads.Asked,
   first-reads.Learnt,
@@ -57,7 +56,6 @@ descriptor-loop-first-requires : (t : ℕ) → descriptor-loop-lts.Need-first-re
 ) (descriptor-loop-at t) descriptor-loop.Post
 descriptor-loop-first-requires t c κs = search needs
 
--- src/loops.rt:47:9
 descriptor-loop-returns : (t : ℕ) → descriptor-loop-lts.Need-returns (
   first-reads.Asked,
   first-reads.Learnt,
@@ -74,7 +72,6 @@ descriptor-loop-returns : (t : ℕ) → descriptor-loop-lts.Need-returns (
 ) (descriptor-loop-at t) descriptor-loop.Post
 descriptor-loop-returns t c = c .first .ensures ∙ fault-end (now (c .before .before .before .args .s)) (c .before .before .before .args .other) (c .before .if1 .taken)
 
--- src/loops.rt:49:9
 descriptor-loop-descriptor-size-requires :
     (t : ℕ) → descriptor-loop-lts.Need-descriptor-size-requires (
       first-reads.Asked,
@@ -92,7 +89,6 @@ descriptor-loop-descriptor-size-requires :
     ) (descriptor-loop-at t) descriptor-loop.Post
 descriptor-loop-descriptor-size-requires t c κs = search needs
 
--- src/loops.rt:51:9
 descriptor-loop-returns-2 : (t : ℕ) → descriptor-loop-lts.Need-returns-2 (
   first-reads.Asked,
   first-reads.Learnt,
@@ -107,10 +103,9 @@ descriptor-loop-returns-2 : (t : ℕ) → descriptor-loop-lts.Need-returns-2 (
   descriptor-loop-below t,
   descriptor-loop.Post,
 ) (descriptor-loop-at t) descriptor-loop.Post
-descriptor-loop-returns-2 t c =     let a = c .before .before .before .before .args in
+descriptor-loop-returns-2 t c = let a = c .before .before .before .before .args in
     fault-stop (now (a .s)) (a .other) _ (c .before .descriptor-size .ensures .is) (c .before .before .if1 .left) (c .if2 .taken)
 
--- src/loops.rt:53:30
 descriptor-loop-byte-at-requires : (t : ℕ) → descriptor-loop-lts.Need-byte-at-requires (
   first-reads.Asked,
   first-reads.Learnt,
@@ -127,7 +122,6 @@ descriptor-loop-byte-at-requires : (t : ℕ) → descriptor-loop-lts.Need-byte-a
 ) (descriptor-loop-at t) descriptor-loop.Post
 descriptor-loop-byte-at-requires t c κs = search needs
 
--- src/loops.rt:53:45
 descriptor-loop-byte-at-requires-2 : (t : ℕ) → descriptor-loop-lts.Need-byte-at-requires-2 (
   first-reads.Asked,
   first-reads.Learnt,
@@ -144,7 +138,6 @@ descriptor-loop-byte-at-requires-2 : (t : ℕ) → descriptor-loop-lts.Need-byte
 ) (descriptor-loop-at t) descriptor-loop.Post
 descriptor-loop-byte-at-requires-2 t c κs = search needs
 
--- src/loops.rt:53:9
 descriptor-loop-right-length-requires : (t : ℕ) → descriptor-loop-lts.Need-right-length-requires (
   first-reads.Asked,
   first-reads.Learnt,
@@ -161,7 +154,6 @@ descriptor-loop-right-length-requires : (t : ℕ) → descriptor-loop-lts.Need-r
 ) (descriptor-loop-at t) descriptor-loop.Post
 descriptor-loop-right-length-requires t c κs = search needs
 
--- src/loops.rt:54:21
 descriptor-loop-sub-descriptor-loop : (t : ℕ) → descriptor-loop-lts.Need-sub-descriptor-loop (
   first-reads.Asked,
   first-reads.Learnt,
@@ -178,7 +170,6 @@ descriptor-loop-sub-descriptor-loop : (t : ℕ) → descriptor-loop-lts.Need-sub
 ) (descriptor-loop-at t) descriptor-loop.Post
 descriptor-loop-sub-descriptor-loop t c = search needs
 
--- src/loops.rt:54:21
 descriptor-loop-part-descriptor-loop-start :
     (t : ℕ) → descriptor-loop-lts.Need-part-descriptor-loop-start (
       first-reads.Asked,
@@ -196,7 +187,6 @@ descriptor-loop-part-descriptor-loop-start :
     ) (descriptor-loop-at t) descriptor-loop.Post
 descriptor-loop-part-descriptor-loop-start t c = search needs
 
--- src/loops.rt:54:21
 descriptor-loop-part-descriptor-loop-end :
     (t : ℕ) → descriptor-loop-lts.Need-part-descriptor-loop-end (
       first-reads.Asked,
@@ -214,7 +204,6 @@ descriptor-loop-part-descriptor-loop-end :
     ) (descriptor-loop-at t) descriptor-loop.Post
 descriptor-loop-part-descriptor-loop-end t c = search needs
 
--- src/loops.rt:54:33
 descriptor-loop-either-requires : (t : ℕ) → descriptor-loop-lts.Need-either-requires (
   first-reads.Asked,
   first-reads.Learnt,
@@ -231,7 +220,6 @@ descriptor-loop-either-requires : (t : ℕ) → descriptor-loop-lts.Need-either-
 ) (descriptor-loop-at t) descriptor-loop.Post
 descriptor-loop-either-requires t c κs = search needs
 
--- src/loops.rt:54:5
 descriptor-loop-descriptor-loop-requires :
     (t : ℕ) → descriptor-loop-lts.Need-descriptor-loop-requires (
       first-reads.Asked,
@@ -247,10 +235,9 @@ descriptor-loop-descriptor-loop-requires :
       descriptor-loop-below t,
       descriptor-loop.Post,
     ) (descriptor-loop-at t) descriptor-loop.Post
-descriptor-loop-descriptor-loop-requires t c κs =     let s = now (c .before .before .before .before .before .before .before .before .before .args .s) in
+descriptor-loop-descriptor-loop-requires t c κs = let s = now (c .before .before .before .before .before .before .before .before .before .args .s) in
     (rw from (simp length-drop (omega (arith, descriptor-two s, c .before .before .before .before .before .before .descriptor-size .ensures .is))), tt)
 
--- src/loops.rt:43:1
 descriptor-loop-returns-3 : (t : ℕ) → descriptor-loop-lts.Need-returns-3 (
   first-reads.Asked,
   first-reads.Learnt,
@@ -265,7 +252,7 @@ descriptor-loop-returns-3 : (t : ℕ) → descriptor-loop-lts.Need-returns-3 (
   descriptor-loop-below t,
   descriptor-loop.Post,
 ) (descriptor-loop-at t) descriptor-loop.Post
-descriptor-loop-returns-3 t c =     let a = c .before .before .before .before .before .before .before .before .before .before .args in
+descriptor-loop-returns-3 t c = let a = c .before .before .before .before .before .before .before .before .before .before .args in
     c .descriptor-loop .ensures
     ∙ fault-more (now (a .s)) (a .other) _ _ (c .before .before .before .before .before .before .before .descriptor-size .ensures .is) (omega arith)
     (c .before .either .ensures ∙ rw (c .before .before .before .right-length .ensures, c .before .before .before .before .byte-at2 .ensures .is, c .before .before .before .before .before .byte-at .ensures .is))

@@ -4,7 +4,7 @@ use Rattle.notification_rules.proofs.Cuts.{from}
 use Rattle.notification.proofs.Faults.{loops-end, loops-short, loops-missing, loops-bad, loops-on}
 use mathlib.Core.Bool.{true, false}
 use denote.Ref.{now}
-use mathlib.Core.Path.{_≡_, refl, sym, ap, _∙_}
+use mathlib.Core.Path.{_∙_}
 use lib.ListN.{length, take, drop, length-drop}
 use native.Mathlib.Omega.{arith}
 use borrow.Author.Needs.{needs}
@@ -53,7 +53,6 @@ abbrev target-loop-below : ℕ → In 1 target-loop-kinds.ps
 target-loop-below t =
     and 1 target-loop-kinds.ps (falls 1 target-loop-kinds.ps _<_ μ-target-loop t) target-loop.Pre
 
--- src/loops.rt:79:9
 operational-loop-loop-size-requires : (t : ℕ) → operational-loop-lts.Need-loop-size-requires (
   loop-size-reads.Asked,
   loop-size-reads.Learnt,
@@ -64,7 +63,6 @@ operational-loop-loop-size-requires : (t : ℕ) → operational-loop-lts.Need-lo
 ) (operational-loop-at t) operational-loop.Post
 operational-loop-loop-size-requires t c κs = search needs
 
--- src/loops.rt:81:9
 operational-loop-returns : (t : ℕ) → operational-loop-lts.Need-returns (
   loop-size-reads.Asked,
   loop-size-reads.Learnt,
@@ -73,10 +71,9 @@ operational-loop-returns : (t : ℕ) → operational-loop-lts.Need-returns (
   target-loop-below t,
   target-loop.Post,
 ) (operational-loop-at t) operational-loop.Post
-operational-loop-returns t c =     let a = c .before .before .before .args in
+operational-loop-returns t c = let a = c .before .before .before .args in
     loops-missing (now (a .s)) (a .other) _ (c .before .loop-size .ensures .is) (c .if1 .taken)
 
--- src/loops.rt:83:33
 operational-loop-sub-descriptor-loop : (t : ℕ) → operational-loop-lts.Need-sub-descriptor-loop (
   loop-size-reads.Asked,
   loop-size-reads.Learnt,
@@ -87,7 +84,6 @@ operational-loop-sub-descriptor-loop : (t : ℕ) → operational-loop-lts.Need-s
 ) (operational-loop-at t) operational-loop.Post
 operational-loop-sub-descriptor-loop t c = omega (arith, loop-two (now (c .before .before .before .args .s)), c .before .loop-size .ensures .is)
 
--- src/loops.rt:83:33
 operational-loop-part-descriptor-loop-start :
     (t : ℕ) → operational-loop-lts.Need-part-descriptor-loop-start (
       loop-size-reads.Asked,
@@ -99,7 +95,6 @@ operational-loop-part-descriptor-loop-start :
     ) (operational-loop-at t) operational-loop.Post
 operational-loop-part-descriptor-loop-start t c = omega (arith, loop-two (now (c .before .before .before .args .s)), c .before .loop-size .ensures .is)
 
--- src/loops.rt:83:33
 operational-loop-part-descriptor-loop-end :
     (t : ℕ) → operational-loop-lts.Need-part-descriptor-loop-end (
       loop-size-reads.Asked,
@@ -111,7 +106,6 @@ operational-loop-part-descriptor-loop-end :
     ) (operational-loop-at t) operational-loop.Post
 operational-loop-part-descriptor-loop-end t c = search needs
 
--- src/loops.rt:83:9
 operational-loop-descriptor-loop-requires :
     (t : ℕ) → operational-loop-lts.Need-descriptor-loop-requires (
       loop-size-reads.Asked,
@@ -123,7 +117,6 @@ operational-loop-descriptor-loop-requires :
     ) (operational-loop-at t) operational-loop.Post
 operational-loop-descriptor-loop-requires t c κs = search needs
 
--- src/loops.rt:85:9
 operational-loop-returns-2 : (t : ℕ) → operational-loop-lts.Need-returns-2 (
   loop-size-reads.Asked,
   loop-size-reads.Learnt,
@@ -132,10 +125,9 @@ operational-loop-returns-2 : (t : ℕ) → operational-loop-lts.Need-returns-2 (
   target-loop-below t,
   target-loop.Post,
 ) (operational-loop-at t) operational-loop.Post
-operational-loop-returns-2 t c =     let a = c .before .before .before .before .before .before .args in
+operational-loop-returns-2 t c = let a = c .before .before .before .before .before .before .args in
     c .if2 .taken ∙ loops-bad true (now (a .s)) (a .other) _ _ (c .before .before .before .before .loop-size .ensures .is) (omega arith) (c .before .descriptor-loop .ensures) (c .if2 .taken)
 
--- src/loops.rt:87:17
 operational-loop-sub-target-loop : (t : ℕ) → operational-loop-lts.Need-sub-target-loop (
   loop-size-reads.Asked,
   loop-size-reads.Learnt,
@@ -146,7 +138,6 @@ operational-loop-sub-target-loop : (t : ℕ) → operational-loop-lts.Need-sub-t
 ) (operational-loop-at t) operational-loop.Post
 operational-loop-sub-target-loop t c = search needs
 
--- src/loops.rt:87:17
 operational-loop-part-target-loop-start :
     (t : ℕ) → operational-loop-lts.Need-part-target-loop-start (
       loop-size-reads.Asked,
@@ -158,7 +149,6 @@ operational-loop-part-target-loop-start :
     ) (operational-loop-at t) operational-loop.Post
 operational-loop-part-target-loop-start t c = search needs
 
--- src/loops.rt:87:17
 operational-loop-part-target-loop-end : (t : ℕ) → operational-loop-lts.Need-part-target-loop-end (
   loop-size-reads.Asked,
   loop-size-reads.Learnt,
@@ -169,7 +159,6 @@ operational-loop-part-target-loop-end : (t : ℕ) → operational-loop-lts.Need-
 ) (operational-loop-at t) operational-loop.Post
 operational-loop-part-target-loop-end t c = search needs
 
--- src/loops.rt:87:5
 operational-loop-target-loop-requires : (t : ℕ) → operational-loop-lts.Need-target-loop-requires (
   loop-size-reads.Asked,
   loop-size-reads.Learnt,
@@ -180,7 +169,6 @@ operational-loop-target-loop-requires : (t : ℕ) → operational-loop-lts.Need-
 ) (operational-loop-at t) operational-loop.Post
 operational-loop-target-loop-requires t c κs = (rw from (simp length-drop (omega (arith, loop-two (now (c .before .before .before .before .before .before .before .args .s)), c .before .before .before .before .before .loop-size .ensures .is))), tt)
 
--- src/loops.rt:76:1
 operational-loop-returns-3 : (t : ℕ) → operational-loop-lts.Need-returns-3 (
   loop-size-reads.Asked,
   loop-size-reads.Learnt,
@@ -189,11 +177,10 @@ operational-loop-returns-3 : (t : ℕ) → operational-loop-lts.Need-returns-3 (
   target-loop-below t,
   target-loop.Post,
 ) (operational-loop-at t) operational-loop.Post
-operational-loop-returns-3 t c =     let a = c .before .before .before .before .before .before .before .before .args in
+operational-loop-returns-3 t c = let a = c .before .before .before .before .before .before .before .before .args in
     c .target-loop .ensures
     ∙ loops-on true (now (a .s)) (a .other) _ _ (c .before .before .before .before .before .before .loop-size .ensures .is) (omega arith) (c .before .before .before .descriptor-loop .ensures) (c .before .before .if2 .left)
 
--- src/loops.rt:62:9
 target-loop-first-requires : (t : ℕ) → target-loop-lts.Need-first-requires (
   first-reads.Asked,
   first-reads.Learnt,
@@ -206,7 +193,6 @@ target-loop-first-requires : (t : ℕ) → target-loop-lts.Need-first-requires (
 ) (target-loop-at t) target-loop.Post
 target-loop-first-requires t c κs = search needs
 
--- src/loops.rt:62:9
 target-loop-returns : (t : ℕ) → target-loop-lts.Need-returns (
   first-reads.Asked,
   first-reads.Learnt,
@@ -219,7 +205,6 @@ target-loop-returns : (t : ℕ) → target-loop-lts.Need-returns (
 ) (target-loop-at t) target-loop.Post
 target-loop-returns t c = c .first .ensures ∙ loops-end (now (c .before .before .before .args .s)) (c .before .before .before .args .other) (c .before .if1 .taken)
 
--- src/loops.rt:64:9
 target-loop-loop-size-requires : (t : ℕ) → target-loop-lts.Need-loop-size-requires (
   first-reads.Asked,
   first-reads.Learnt,
@@ -232,7 +217,6 @@ target-loop-loop-size-requires : (t : ℕ) → target-loop-lts.Need-loop-size-re
 ) (target-loop-at t) target-loop.Post
 target-loop-loop-size-requires t c κs = search needs
 
--- src/loops.rt:66:9
 target-loop-returns-2 : (t : ℕ) → target-loop-lts.Need-returns-2 (
   first-reads.Asked,
   first-reads.Learnt,
@@ -243,10 +227,9 @@ target-loop-returns-2 : (t : ℕ) → target-loop-lts.Need-returns-2 (
   operational-loop-below t,
   operational-loop.Post,
 ) (target-loop-at t) target-loop.Post
-target-loop-returns-2 t c =     let a = c .before .before .before .before .args in
+target-loop-returns-2 t c = let a = c .before .before .before .before .args in
     loops-short (now (a .s)) (a .other) _ (c .before .loop-size .ensures .is) (c .before .before .if1 .left) (c .if2 .taken)
 
--- src/loops.rt:68:33
 target-loop-sub-descriptor-loop : (t : ℕ) → target-loop-lts.Need-sub-descriptor-loop (
   first-reads.Asked,
   first-reads.Learnt,
@@ -259,7 +242,6 @@ target-loop-sub-descriptor-loop : (t : ℕ) → target-loop-lts.Need-sub-descrip
 ) (target-loop-at t) target-loop.Post
 target-loop-sub-descriptor-loop t c = omega (arith, loop-two (now (c .before .before .before .before .args .s)), c .before .loop-size .ensures .is)
 
--- src/loops.rt:68:33
 target-loop-part-descriptor-loop-start : (t : ℕ) → target-loop-lts.Need-part-descriptor-loop-start (
   first-reads.Asked,
   first-reads.Learnt,
@@ -272,7 +254,6 @@ target-loop-part-descriptor-loop-start : (t : ℕ) → target-loop-lts.Need-part
 ) (target-loop-at t) target-loop.Post
 target-loop-part-descriptor-loop-start t c = omega (arith, loop-two (now (c .before .before .before .before .args .s)), c .before .loop-size .ensures .is)
 
--- src/loops.rt:68:33
 target-loop-part-descriptor-loop-end : (t : ℕ) → target-loop-lts.Need-part-descriptor-loop-end (
   first-reads.Asked,
   first-reads.Learnt,
@@ -285,7 +266,6 @@ target-loop-part-descriptor-loop-end : (t : ℕ) → target-loop-lts.Need-part-d
 ) (target-loop-at t) target-loop.Post
 target-loop-part-descriptor-loop-end t c = search needs
 
--- src/loops.rt:68:9
 target-loop-descriptor-loop-requires : (t : ℕ) → target-loop-lts.Need-descriptor-loop-requires (
   first-reads.Asked,
   first-reads.Learnt,
@@ -298,7 +278,6 @@ target-loop-descriptor-loop-requires : (t : ℕ) → target-loop-lts.Need-descri
 ) (target-loop-at t) target-loop.Post
 target-loop-descriptor-loop-requires t c κs = search needs
 
--- src/loops.rt:70:9
 target-loop-returns-3 : (t : ℕ) → target-loop-lts.Need-returns-3 (
   first-reads.Asked,
   first-reads.Learnt,
@@ -309,10 +288,9 @@ target-loop-returns-3 : (t : ℕ) → target-loop-lts.Need-returns-3 (
   operational-loop-below t,
   operational-loop.Post,
 ) (target-loop-at t) target-loop.Post
-target-loop-returns-3 t c =     let a = c .before .before .before .before .before .before .before .args in
+target-loop-returns-3 t c = let a = c .before .before .before .before .before .before .before .args in
     c .if3 .taken ∙ loops-bad false (now (a .s)) (a .other) _ _ (c .before .before .before .before .loop-size .ensures .is) (omega arith) (c .before .descriptor-loop .ensures) (c .if3 .taken)
 
--- src/loops.rt:72:22
 target-loop-sub-operational-loop : (t : ℕ) → target-loop-lts.Need-sub-operational-loop (
   first-reads.Asked,
   first-reads.Learnt,
@@ -325,7 +303,6 @@ target-loop-sub-operational-loop : (t : ℕ) → target-loop-lts.Need-sub-operat
 ) (target-loop-at t) target-loop.Post
 target-loop-sub-operational-loop t c = search needs
 
--- src/loops.rt:72:22
 target-loop-part-operational-loop-start :
     (t : ℕ) → target-loop-lts.Need-part-operational-loop-start (
       first-reads.Asked,
@@ -339,7 +316,6 @@ target-loop-part-operational-loop-start :
     ) (target-loop-at t) target-loop.Post
 target-loop-part-operational-loop-start t c = search needs
 
--- src/loops.rt:72:22
 target-loop-part-operational-loop-end : (t : ℕ) → target-loop-lts.Need-part-operational-loop-end (
   first-reads.Asked,
   first-reads.Learnt,
@@ -352,7 +328,6 @@ target-loop-part-operational-loop-end : (t : ℕ) → target-loop-lts.Need-part-
 ) (target-loop-at t) target-loop.Post
 target-loop-part-operational-loop-end t c = search needs
 
--- src/loops.rt:72:5
 target-loop-operational-loop-requires : (t : ℕ) → target-loop-lts.Need-operational-loop-requires (
   first-reads.Asked,
   first-reads.Learnt,
@@ -365,7 +340,6 @@ target-loop-operational-loop-requires : (t : ℕ) → target-loop-lts.Need-opera
 ) (target-loop-at t) target-loop.Post
 target-loop-operational-loop-requires t c κs = (rw from (simp length-drop (omega (arith, loop-two (now (c .before .before .before .before .before .before .before .before .args .s)), c .before .before .before .before .before .loop-size .ensures .is))), tt)
 
--- src/loops.rt:58:1
 target-loop-returns-4 : (t : ℕ) → target-loop-lts.Need-returns-4 (
   first-reads.Asked,
   first-reads.Learnt,
@@ -376,7 +350,7 @@ target-loop-returns-4 : (t : ℕ) → target-loop-lts.Need-returns-4 (
   operational-loop-below t,
   operational-loop.Post,
 ) (target-loop-at t) target-loop.Post
-target-loop-returns-4 t c =     let a = c .before .before .before .before .before .before .before .before .before .args in
+target-loop-returns-4 t c = let a = c .before .before .before .before .before .before .before .before .before .args in
     c .operational-loop .ensures
     ∙ loops-on false (now (a .s)) (a .other) _ _ (c .before .before .before .before .before .before .loop-size .ensures .is) (omega arith) (c .before .before .before .descriptor-loop .ensures) (c .before .before .if3 .left)
 

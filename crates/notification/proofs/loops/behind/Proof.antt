@@ -9,34 +9,26 @@ use native.Mathlib.Omega.{arith}
 use borrow.Author.Needs.{needs}
 use Rattle.notification.proofs.loops.behind.Statement.{statement}
 use Rattle.notification.proofs.loops.behind.Tie as tie
-use Rattle.notification.proofs.loops.behind.Reads as reads
-use Rattle.notification.proofs.loops.behind.Lts as lts
 
--- src/loops.rt:95:9
 slice-aggregate-result : tie.Need-slice-aggregate-result
 slice-aggregate-result c = search needs
 
--- src/loops.rt:95:9
 returns : tie.Need-returns
-returns c =     let a = c .before .before .args in
+returns c = let a = c .before .before .args in
     let l : length (now (a .s)) ≤ a .k = omega arith in
     record { bytes = sym (drop-of-length-le (now (a .s)) l); place = λ h. absurd (omega (arith, h, c .before .if1 .taken)) }
 
--- src/loops.rt:97:5
 sub-result : tie.Need-sub-result
 sub-result c = search needs
 
--- src/loops.rt:97:5
 part-result-start : tie.Need-part-result-start
 part-result-start c = search needs
 
--- src/loops.rt:97:5
 part-result-end : tie.Need-part-result-end
 part-result-end c = search needs
 
--- src/loops.rt:91:1
 returns-2 : tie.Need-returns-2
-returns-2 c =     let a = c .before .before .args in
+returns-2 c = let a = c .before .before .args in
     let e = from (a .k) (now (a .s)) in
     record { bytes = e; place = λ h. record { bytes = e; block = refl; place = refl } }
 

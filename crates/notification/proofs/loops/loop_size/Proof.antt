@@ -4,19 +4,13 @@ use native.Mathlib.Omega.{arith}
 use borrow.Author.Needs.{needs}
 use Rattle.notification.proofs.loops.loop_size.Statement.{statement}
 use Rattle.notification.proofs.loops.loop_size.Tie as tie
-use Rattle.notification.proofs.loops.loop_size.Reads as reads
-use Rattle.notification.proofs.loops.loop_size.Lts as lts
-use Rattle.wire.proofs.u16_at.Reads as u16-at-reads
 
--- src/loops.rt:16:9
 u16-at-requires : tie.Need-u16-at-requires
 u16-at-requires c κs = search needs
 
--- src/loops.rt:16:5
 add-result : tie.Need-add-result
 add-result c = search needs
 
--- src/loops.rt:13:1
 returns : tie.Need-returns
 unfolding loopSize
 returns c = record { is = rw (c .u16-at .ensures .is); below = omega arith }

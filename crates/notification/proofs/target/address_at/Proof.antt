@@ -5,34 +5,24 @@ use native.Mathlib.Omega.{arith}
 use borrow.Author.Needs.{needs}
 use Rattle.notification.proofs.target.address_at.Statement.{statement}
 use Rattle.notification.proofs.target.address_at.Tie as tie
-use Rattle.notification.proofs.target.address_at.Reads as reads
-use Rattle.notification.proofs.target.address_at.Lts as lts
-use Rattle.wire.proofs.u16_at.Reads as u16-at-reads
-use Rattle.wire.proofs.u32_at.Reads as u32-at-reads
 
--- src/target.rt:16:5
 u16-at-requires : tie.Need-u16-at-requires
 u16-at-requires c κs = search needs
 
--- src/target.rt:16:5
 mul-result : tie.Need-mul-result
 mul-result c = search needs
 
--- src/target.rt:16:55
 add-u32-at : tie.Need-add-u32-at
 add-u32-at c = search needs
 
--- src/target.rt:16:39
 u32-at-requires : tie.Need-u32-at-requires
 u32-at-requires c κs = search needs
 
--- src/target.rt:16:5
 add-result : tie.Need-add-result
 add-result c = search needs
 
--- src/target.rt:12:1
 returns : tie.Need-returns
-returns c =     let a = c .before .before .before .args in
+returns c = let a = c .before .before .before .args in
     record {
       is = omega (arith, number-six (now (a .s)) (a .i), c .before .u16-at .ensures .is, c .u32-at .ensures .is);
       below = omega (arith, c .before .u16-at .ensures .below, c .u32-at .ensures .below);

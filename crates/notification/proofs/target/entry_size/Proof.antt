@@ -5,15 +5,11 @@ use borrow.Author.Tests.{eq-eqb, ne-eqb}
 use mathlib.Core.Path.{refl}
 use Rattle.notification.proofs.target.entry_size.Statement.{statement}
 use Rattle.notification.proofs.target.entry_size.Tie as tie
-use Rattle.notification.proofs.target.entry_size.Reads as reads
-use Rattle.notification.proofs.target.entry_size.Lts as lts
 
--- src/target.rt:46:9
 returns : tie.Need-returns
 unfolding entrySize
 returns c = yes-pick _ _ (eq-eqb _ 0x07 (c .if1 .taken)) refl
 
--- src/target.rt:42:1
 returns-2 : tie.Need-returns-2
 unfolding entrySize
 returns-2 c = not-pick _ _ (ne-eqb _ 0x07 (c .if1 .left)) refl
