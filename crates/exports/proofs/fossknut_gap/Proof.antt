@@ -1,5 +1,7 @@
 -- The numbers written are those of what `gap` makes of the state that the numbers meant.
-use mathlib.Core.Path.{_∙_}
+use mathlib.Core.Path.{ap, _∙_}
+use Rattle.rules.specs.Step.{gapOf}
+use Rattle.exports.specs.State.{numbersOf}
 use borrow.Author.Needs.{needs}
 use Rattle.exports.proofs.fossknut_gap.Statement.{statement}
 use Rattle.exports.proofs.fossknut_gap.Tie as tie
@@ -16,7 +18,7 @@ put-requires c κs = search needs
 returns : tie.Need-returns
 returns c =
     let ended = c .before .before .before .before .before .before in
-    c .put .ensures ∙ rw (ended .gap .ensures, ended .before .state-of .ensures)
+    c .put .ensures ∙ ap numbersOf (ended .gap .ensures ∙ ap gapOf (ended .before .state-of .ensures))
 
 pub fossknut-gap-spec : {M : Type 1} → statement M
 fossknut-gap-spec = tie.close (tie.spec state-of-requires gap-requires put-requires returns)
