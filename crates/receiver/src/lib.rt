@@ -47,14 +47,6 @@ pub fn length_of(answer: Answer) -> usize
     }
 }
 
-fn good_settings(settings: Settings) -> bool
-    ensures { λ r. ⌜ r ≡ goodSettings settings ⌝ }
-{
-    let range = settings.range;
-    let limit = settings.limit;
-    both(both(1 <= range, range <= 6), both(1 <= limit, limit <= 255))
-}
-
 // The product is computed only where it is small.
 fn good_run(next: usize, last: usize, filled: usize) -> bool
     ensures { λ r. ⌜ r ≡ goodRun next last filled ⌝ }
@@ -232,7 +224,7 @@ fn unfit(settings: Settings, state: State) -> u8
     ensures { λ r. ⌜ r ≡ first (not (goodSettings settings)) 10 (first (not (goodState state)) 11 0) ⌝ }
 {
     first(
-        !good_settings(settings),
+        !section::settings::good_settings(settings),
         10,
         first(!good_state(state), 11, 0),
     )

@@ -14,7 +14,6 @@ ghost use lib.ListN.{length};
 ghost use Rattle.wire.specs.Bytes.{Reads};
 ghost use Rattle.wire.specs.Choice.{both, firstOf};
 ghost use Rattle.rules.specs.Section.{sectionOf};
-ghost use Rattle.rules.specs.Step.{goodSettings};
 ghost use Rattle.rules.specs.Send.{sendingNumber, sendingLength, sectionCount, sections, sendLines, sentOf, defaultPiece, Sends};
 ghost use Rattle.sender.specs.Puts.{Puts};
 
@@ -36,14 +35,6 @@ pub fn length_of(sending: Sending) -> usize
         Sending::Sent(length) => length,
         Sending::Unsent(_) => 0,
     }
-}
-
-// Range 1 to 6, section limit 1 to 255.
-fn settings_good(settings: Settings) -> bool
-    ensures { λ r. ⌜ r ≡ goodSettings settings ⌝ }
-{
-    let range = both(1 <= settings.range, settings.range <= 6);
-    both(range, both(1 <= settings.limit, settings.limit <= 255))
 }
 
 fn size_good(size: usize) -> bool
@@ -68,7 +59,7 @@ fn section_count(size: usize, unit: &[u8]) -> usize
 fn refusal(settings: Settings, size: usize, unit: &[u8], out: &[u8]) -> u8
     ensures { λ r. ⌜ ((flag : Bool) → r ≡ firstOf (sendLines settings flag size (now (unit .entry)) (now (out .entry)))) ⌝ }
 {
-    if !settings_good(settings) {
+    if !section::settings::good_settings(settings) {
         return 10;
     }
     if !size_good(size) {

@@ -11,12 +11,12 @@ use borrow.Author.Needs.{needs}
 use Rattle.sender.proofs.refusal.Statement.{statement}
 use Rattle.sender.proofs.refusal.Tie as tie
 
-settings-good-requires : tie.Need-settings-good-requires
-settings-good-requires c κs = search needs
+good-settings-requires : tie.Need-good-settings-requires
+good-settings-requires c κs = search needs
 
 returns : tie.Need-returns
 unfolding sendLines firstOf
-returns c flag = yes-first 10 _ (was (ap not (c .before .settings-good .ensures)) (c .if1 .taken))
+returns c flag = yes-first 10 _ (was (ap not (c .before .good-settings .ensures)) (c .if1 .taken))
 
 size-good-requires : tie.Need-size-good-requires
 size-good-requires c κs = search needs
@@ -24,14 +24,14 @@ size-good-requires c κs = search needs
 returns-2 : tie.Need-returns-2
 unfolding sendLines firstOf
 returns-2 c flag =
-    not-first 10 _ (was (ap not (c .before .before .before .settings-good .ensures)) (c .before .before .if1 .left))
+    not-first 10 _ (was (ap not (c .before .before .before .good-settings .ensures)) (c .before .before .if1 .left))
     (yes-first 50 _ (was (ap not (c .before .size-good .ensures)) (c .if2 .taken)))
 
 returns-3 : tie.Need-returns-3
 unfolding sendLines firstOf
 returns-3 c flag =
     let s = c .before .before in
-    not-first 10 _ (was (ap not (s .before .before .settings-good .ensures)) (s .before .if1 .left))
+    not-first 10 _ (was (ap not (s .before .before .good-settings .ensures)) (s .before .if1 .left))
     (not-first 50 _ (was (ap not (s .size-good .ensures)) (c .before .if2 .left)) (yes-first 51 _ (lt-ltb 65535 _ (c .if3 .taken))))
 
 section-count-requires : tie.Need-section-count-requires
@@ -57,7 +57,7 @@ returns-4 c flag =
     let n = c .before .before .before in
     let s = n .before .before .before in
     let a = s .before .before .before .before .before .args in
-    let t10 = was (ap not (s .before .before .settings-good .ensures)) (s .before .if1 .left) in
+    let t10 = was (ap not (s .before .before .good-settings .ensures)) (s .before .if1 .left) in
     let t50 = was (ap not (s .size-good .ensures)) (n .before .before .if2 .left) in
     let some = leb-true 1 (a .size) (both-true _ _ (not-false _ t50) .0) in
     let total = sections-bytes (a .settings) flag (a .size) (now (a .unit)) some in
@@ -68,7 +68,7 @@ pub refusal-spec : {M : Type 1} → statement M
 refusal-spec =
     tie.close
     (tie.spec
-    settings-good-requires
+    good-settings-requires
     returns
     size-good-requires
     returns-2

@@ -2,8 +2,8 @@
 use mathlib.Core.Path.{_∙_}
 use Rattle.rules.specs.Step.{goodSettings}
 use borrow.Author.Needs.{needs}
-use Rattle.receiver.proofs.good_settings.Statement.{statement}
-use Rattle.receiver.proofs.good_settings.Tie as tie
+use Rattle.section.proofs.settings.good_settings.Statement.{statement}
+use Rattle.section.proofs.settings.good_settings.Tie as tie
 
 both-requires : tie.Need-both-requires
 both-requires c κs = search needs
