@@ -10,7 +10,8 @@ ghost use Rattle.rules.specs.Crc.{crc32};
 ghost use Rattle.rules.specs.Send.{sentOf, defaultPiece};
 ghost use Rattle.rules.specs.Step.{stepOf, gapOf};
 ghost use Rattle.exports.specs.Numbers.{settingsOf, flagOf, numbers, stateOf, numbersOf};
-ghost use Rattle.exports.specs.Given.{Given, Gives};
+ghost use Rattle.exports.specs.Given.{Given, Gives, Told};
+ghost use Rattle.pes_rules.specs.Packet.{readOf};
 
 // CRC_32 of the bytes.
 #[no_mangle]
@@ -140,4 +141,35 @@ pub extern "C" fn fossknut_send_by_default(
     let sending = sender::send_by_default(settings, flag != 0, unit, out);
     *length = sender::length_of(sending);
     sender::number_of(sending)
+}
+
+// The PES data packet reader: the answer; flags, values and the data's place in the packet go through the numbers lent.
+#[no_mangle]
+pub extern "C" fn fossknut_pes(
+    packet: &[u8],
+    extended: &mut u8,
+    rated: &mut u8,
+    extension: &mut usize,
+    rate: &mut usize,
+    start: &mut usize,
+    length: &mut usize,
+) -> u8
+    ensures { λ r. ⌜ Told
+        (readOf (now (packet .entry)))
+        r
+        (now (extended .exit))
+        (now (rated .exit))
+        (now (extension .exit))
+        (now (rate .exit))
+        (now (start .exit))
+        (now (length .exit)) ⌝ }
+{
+    let reading = pes::read(packet);
+    *extended = reading.extended as u8;
+    *rated = reading.rated as u8;
+    *extension = reading.extension as usize;
+    *rate = reading.rate as usize;
+    *start = reading.start;
+    *length = pes::data(packet).len();
+    reading.answer
 }

@@ -10,7 +10,7 @@ use lib.Dec.{eqb}
 use borrow.Author.Tests.{eq-eqb, eqb-true, ltb-false}
 use Rattle.wire.specs.Bytes.{byteAt, bits, numberAt}
 use Rattle.wire.specs.Choice.{pick, either, first, firstOf}
-use Rattle.wire.proofs.Choice.{never}
+use Rattle.wire.proofs.Choice.{either-false, never}
 use Rattle.pes_rules.specs.declared.Reading.{Reading}
 use Rattle.pes_rules.specs.Packet.{dataIdentifier, subStreamId, ptsExtensionFlag, outputDataRateFlag, flagged, ptsExtension, ratePlace, outputDataRate, privatePlace, dataPlace, wrongSize, otherIdentifier, wrongFlags, wrongHeaderLength, fault, refused, taken, readOf}
 use Rattle.pes_rules.specs.Written.{Values, valuesOf}
@@ -86,13 +86,8 @@ unfolding valuesOf
 values-taken s e = rw (read-taken s e)
 
 -- ---- the data's place
-pub neither : (t u : Bool) → either t u ≡ false → (t ≡ false) × (u ≡ false)
-unfolding either
-neither true u e = absurd (never (sym e))
-neither false u e = (refl, e)
-
 pub within : (s : List ℕ) → None s → dataPlace s ≤ length s
-within s n = ltb-false (length s) (dataPlace s) (neither _ _ (n .no43) .1)
+within s n = ltb-false (length s) (dataPlace s) (either-false _ _ (n .no43) .1)
 
 pub record Within (start end : ℕ) (s : List ℕ) : Type 0 where
   pub order : start ≤ end

@@ -13,10 +13,10 @@ use lib.Dec.{eqb, ltb, lit<}
 use borrow.Author.Tests.{eqb-true, ltb-false}
 use Rattle.wire.specs.Bytes.{byteAt, bits, numberAt, bytesOf}
 use Rattle.wire.specs.Choice.{pick, both, either}
-use Rattle.wire.proofs.Choice.{never}
+use Rattle.wire.proofs.Choice.{either-false, never}
 use Rattle.pes_rules.specs.Packet.{dataIdentifier, ptsExtensionFlag, outputDataRateFlag, pesDataPacketHeaderLength, flagged, ptsExtension, ratePlace, outputDataRate, privatePlace, dataPlace}
 use Rattle.pes_rules.specs.Written.{Bytes, Conforms, extensionField, flagsByte, IsWritten, optionalFields, packetOf, rateField, ReadIsWritten, Stream, Values}
-use Rattle.pes_rules.proofs.Answer.{answered, neither, no-fault, None, takenValues, values-taken, within}
+use Rattle.pes_rules.proofs.Answer.{answered, no-fault, None, takenValues, values-taken, within}
 use Rattle.pes_rules.proofs.Bytes.{bytesOf-numberAt, numberAt-lt, slice-bytes, slice-is}
 
 -- ---- identifier and flags
@@ -81,13 +81,13 @@ three (a ∷ b ∷ c ∷ s) h = refl
 -- ---- the packet
 module _ (s : List ℕ) (h : Bytes s) (n : None s) where
   long : 3 ≤ length s
-  long = ltb-false (length s) 3 (neither _ _ (n .no40) .0)
+  long = ltb-false (length s) 3 (either-false _ _ (n .no40) .0)
 
   short : length s ≤ 65535
-  short = ltb-false 65535 (length s) (neither _ _ (n .no40) .1)
+  short = ltb-false 65535 (length s) (either-false _ _ (n .no40) .1)
 
   behind : privatePlace s ≤ dataPlace s
-  behind = ltb-false (dataPlace s) (privatePlace s) (neither _ _ (n .no43) .0)
+  behind = ltb-false (dataPlace s) (privatePlace s) (either-false _ _ (n .no43) .0)
 
   extension-is : extensionField (takenValues s) ≡ take (flagged (ptsExtensionFlag s) 2) (drop 3 s)
   unfolding extensionField
