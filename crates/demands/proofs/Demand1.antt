@@ -16,9 +16,11 @@ use Rattle.rules.specs.declared.State.{State}
 use Rattle.rules.specs.declared.State.the-variants.{Idle, Open}
 use Rattle.rules.specs.declared.Answer.the-variants.{Delivered, PassedBy, Refused, Stored}
 use Rattle.rules.specs.Check.{check, checkLines, faultLines, formLines, orderLines}
+use Rattle.pes_rules.specs.Packet.{fault as pesFault, readOf, refused as pesRefused}
+use Rattle.rules.specs.Send.{sendingLength, sendingNumber, sendLines, sentOf, written}
 use Rattle.rules.specs.Section.{lastSectionNumber, payload, sectionNumber}
 use Rattle.rules.specs.Step.{barLines, finish, From, gapOf, goodSettings, goodState, keep, keyOf, laid, lay, lengthOf, Nowhere, numberOf, ours, Outcome, outcome, Place, place, refuse, refuseFirst, room, stepOf}
-use Rattle.demands.specs.Demand1.{ByTable, Demand1, nowhere, overfull, tableOf}
+use Rattle.demands.specs.Demand1.{ByTable, Demand1, nowhere, overfull, Sending1, tableOf}
 
 -- ---- a part of the table
 refuse-part : {σ : State} {o : Outcome} (a m : List Line) (b : List ℕ) → numbered a ≡ true → ByTable m σ b o → ByTable (a ++ m) σ b (refuseFirst a b o)
@@ -113,6 +115,23 @@ step-by-table c σ s b =
     (refuse-part (checkLines s) _ b (check-numbered s)
     (pass-part (ours c s) _ b (refuse-part (barLines c s) _ b (bar-numbered c s) (lay-part (place σ s) s b))))
 
+-- ---- the sender
+sent-by-lines : (c : Settings) (flag : Bool) (n : ℕ) (u out : List ℕ)
+    → Sending1 (sendLines c flag n u out) out (written c flag n u out) (sentOf c flag n u out)
+unfolding sentOf pick sendingNumber sendingLength
+sent-by-lines c flag n u out = go (ℕ-discrete (firstOf (sendLines c flag n u out)) 0)
+  where
+    go : Dec (firstOf (sendLines c flag n u out) ≡ 0)
+        → Sending1 (sendLines c flag n u out) out (written c flag n u out) (sentOf c flag n u out)
+    go (yes e) = rw (eq-eqb (firstOf (sendLines c flag n u out)) 0 e) (record { refused = λ h. absurd (h e); sent = λ z. refl })
+    go (no e) =
+        rw (ne-eqb (firstOf (sendLines c flag n u out)) 0 e) (record { refused = λ h. (refl, refl, refl); sent = λ z. absurd (e z) })
+
+-- ---- the PES reader
+pes-by-lines : (s : List ℕ) → (pesFault s ≡ 0 → ⊥) → readOf s ≡ pesRefused (pesFault s)
+unfolding readOf pick
+pes-by-lines s h = rw (ne-eqb (pesFault s) 0 h)
+
 -- ---- the contracts
 pub demand-1 : Demand1
 unfolding check gapOf
@@ -121,4 +140,7 @@ demand-1 =
       check = λ κs a z e p. p;
       receive = λ κs a z e p. rw (p .step, p .buffer) (step-by-table (a .0) (a .1 .0) (now (a .1 .1 .0)) (now (a .1 .1 .1 .0)));
       gap = λ κs a z e p. p;
+      send = λ κs a z e p.
+          rw (p .sending, p .output) (sent-by-lines (a .0) (a .1 .0) (a .1 .1 .0) (now (a .1 .1 .1 .0)) (now (a .1 .1 .1 .1 .0)));
+      pes = λ κs a z e p h. p ∙ pes-by-lines (now (a .0)) h;
     }

@@ -33,6 +33,23 @@ tight =
       fossknut-receive = λ κs a z y e d p q.
           (p .answer ∙ sym (q .answer), p .state ∙ sym (q .state), p .buffer ∙ sym (q .buffer), p .unit ∙ sym (q .unit));
       fossknut-gap = λ κs a z y e d p q. p ∙ sym q;
+      good-settings = λ κs a z y e d p q. p ∙ sym q;
+      send = λ κs a z y e d p q. (p .sending ∙ sym (q .sending), p .output ∙ sym (q .output));
+      send-by-default = λ κs a z y e d p q. (p .sending ∙ sym (q .sending), p .output ∙ sym (q .output));
+      sender-number-of = λ κs a z y e d p q. p ∙ sym q;
+      sender-length-of = λ κs a z y e d p q. p ∙ sym q;
+      fossknut-send = λ κs a z y e d p q. (p .number ∙ sym (q .number), p .output ∙ sym (q .output), p .length ∙ sym (q .length));
+      fossknut-send-by-default = λ κs a z y e d p q.
+          (p .number ∙ sym (q .number), p .output ∙ sym (q .output), p .length ∙ sym (q .length));
+      fossknut-pes = λ κs a z y e d p q. (
+        p .answer ∙ sym (q .answer),
+        p .extended ∙ sym (q .extended),
+        p .rated ∙ sym (q .rated),
+        p .extension ∙ sym (q .extension),
+        p .rate ∙ sym (q .rate),
+        p .start ∙ sym (q .start),
+        p .length ∙ sym (q .length),
+      );
       gap = λ κs a z y e d p q. p ∙ sym q;
       number-of = λ κs a z y e d p q. p ∙ sym q;
       length-of = λ κs a z y e d p q. p ∙ sym q;

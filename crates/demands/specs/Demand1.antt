@@ -16,10 +16,16 @@ use Rattle.rules.specs.declared.State.{State}
 use Rattle.rules.specs.declared.State.the-variants.{Idle}
 use Rattle.rules.specs.declared.Answer.the-variants.{PassedBy, Refused}
 use Rattle.rules.specs.Check.{checkLines}
+use Rattle.pes_rules.specs.Packet.{fault as pesFault, refused as pesRefused}
 use Rattle.rules.specs.Section.{payload}
+use Rattle.rules.specs.Send.{sendingLength, sendingNumber, sendLines, SendOutcome, written}
 use Rattle.rules.specs.Step.{barLines, From, goodSettings, goodState, lengthOf, Nowhere, numberOf, ours, Outcome, Place, place, room, stepOf}
 use Rattle.section.proofs.check.Reads as check-reads
 use Rattle.section.proofs.check.Kinds as check-kinds
+use Rattle.sender.proofs.send.Reads as send-reads
+use Rattle.sender.proofs.send.Kinds as send-kinds
+use Rattle.pes.proofs.read.Reads as pes-read-reads
+use Rattle.pes.proofs.read.Kinds as pes-read-kinds
 use Rattle.receiver.proofs.receive.Reads as receive-reads
 use Rattle.receiver.proofs.receive.Kinds as receive-kinds
 use Rattle.receiver.proofs.gap.Reads as gap-reads
@@ -54,6 +60,11 @@ pub record ByTable (table : List Line) (σ : State) (b : List ℕ) (o : Outcome)
   -- a section that is passed by leaves everything as it is
   pub passed : o .step .answer ≡ PassedBy → (lengthOf (o .step .answer) ≡ 0) × (o .step .state ≡ σ) × (o .buffer ≡ b)
 
+-- ---- the sender's outcome: by its refusals' lines, nothing written and length 0, or the sections with what is behind them as it was
+pub record Sending1 (lines : List Line) (out : List ℕ) (w o : SendOutcome) : Type 0 where
+  pub refused : (firstOf lines ≡ 0 → ⊥) → (sendingNumber (o .sending) ≡ firstOf lines) × (sendingLength (o .sending) ≡ 0) × (o .output ≡ out)
+  pub sent : firstOf lines ≡ 0 → o ≡ w
+
 -- ---- what the contracts of the code allow
 pub record Demand1 : Type 0 where
   -- the check's number is the first of 12 to 19 that applies, else 0
@@ -67,3 +78,12 @@ pub record Demand1 : Type 0 where
   -- a gap notice makes any state idle and is never refused
   pub gap : (κs : Lfts 0) (a : Dens κs gap-kinds.ps) (z : resT gap-kinds.r κs .Denot) (e : AtExit (endedOf 0 gap-kinds.ps gap-kinds.r) κs)
       → gap-reads.Learnt κs a z e → z ≡ Idle
+  -- the sender
+  pub send : (κs : Lfts 2) (a : Dens κs send-kinds.ps) (z : resT send-kinds.r κs .Denot) (e : AtExit (endedOf 2 send-kinds.ps send-kinds.r) κs)
+      → send-reads.Learnt κs a z e
+      → Sending1 (sendLines (a .0) (a .1 .0) (a .1 .1 .0) (now (a .1 .1 .1 .0)) (now (a .1 .1 .1 .1 .0))) (now (a .1 .1 .1 .1 .0))
+      (written (a .0) (a .1 .0) (a .1 .1 .0) (now (a .1 .1 .1 .0)) (now (a .1 .1 .1 .1 .0)))
+      (record { sending = z; output = now (e .1 .1 .1 .1 .0) })
+  -- the PES reader: a refusal gives its number, zeros and an empty part
+  pub pes : (κs : Lfts 1) (a : Dens κs pes-read-kinds.ps) (z : resT pes-read-kinds.r κs .Denot) (e : AtExit (endedOf 1 pes-read-kinds.ps pes-read-kinds.r) κs)
+      → pes-read-reads.Learnt κs a z e → (pesFault (now (a .0)) ≡ 0 → ⊥) → z ≡ pesRefused (pesFault (now (a .0)))

@@ -21,6 +21,22 @@ use Rattle.exports.proofs.fossknut_receive.Reads as fossknut-receive-reads
 use Rattle.exports.proofs.fossknut_receive.Kinds as fossknut-receive-kinds
 use Rattle.exports.proofs.fossknut_gap.Reads as fossknut-gap-reads
 use Rattle.exports.proofs.fossknut_gap.Kinds as fossknut-gap-kinds
+use Rattle.sender.proofs.send.Reads as send-reads
+use Rattle.sender.proofs.send.Kinds as send-kinds
+use Rattle.sender.proofs.send_by_default.Reads as send-by-default-reads
+use Rattle.sender.proofs.send_by_default.Kinds as send-by-default-kinds
+use Rattle.sender.proofs.number_of.Reads as sender-number-of-reads
+use Rattle.sender.proofs.number_of.Kinds as sender-number-of-kinds
+use Rattle.sender.proofs.length_of.Reads as sender-length-of-reads
+use Rattle.sender.proofs.length_of.Kinds as sender-length-of-kinds
+use Rattle.exports.proofs.fossknut_send.Reads as fossknut-send-reads
+use Rattle.exports.proofs.fossknut_send.Kinds as fossknut-send-kinds
+use Rattle.exports.proofs.fossknut_send_by_default.Reads as fossknut-send-by-default-reads
+use Rattle.exports.proofs.fossknut_send_by_default.Kinds as fossknut-send-by-default-kinds
+use Rattle.exports.proofs.fossknut_pes.Reads as fossknut-pes-reads
+use Rattle.exports.proofs.fossknut_pes.Kinds as fossknut-pes-kinds
+use Rattle.section.proofs.settings.good_settings.Reads as good-settings-reads
+use Rattle.section.proofs.settings.good_settings.Kinds as good-settings-kinds
 use Rattle.exports.specs.Numbers.{numbers}
 use Rattle.receiver.proofs.receive.Reads as receive-reads
 use Rattle.receiver.proofs.receive.Kinds as receive-kinds
@@ -112,6 +128,35 @@ ForeignGapTight =
     → fossknut-gap-reads.Learnt κs a z e → fossknut-gap-reads.Learnt κs a y d
     → numbers (now (e .0)) (now (e .1 .0)) (now (e .1 .1 .0)) (now (e .1 .1 .1 .0)) (now (e .1 .1 .1 .1 .0)) ≡ numbers (now (d .0)) (now (d .1 .0)) (now (d .1 .1 .0)) (now (d .1 .1 .1 .0)) (now (d .1 .1 .1 .1 .0))
 
+-- what `send` answers, and what it leaves in the output; the same where no piece size is given
+abbrev pub SendTight : Type 0
+SendTight =
+    (κs : Lfts 2) (a : Dens κs send-kinds.ps) (z y : resT send-kinds.r κs .Denot) (e d : AtExit (endedOf 2 send-kinds.ps send-kinds.r) κs)
+    → send-reads.Learnt κs a z e → send-reads.Learnt κs a y d → (z ≡ y) × (now (e .1 .1 .1 .1 .0) ≡ now (d .1 .1 .1 .1 .0))
+
+abbrev pub SendByDefaultTight : Type 0
+SendByDefaultTight =
+    (κs : Lfts 2) (a : Dens κs send-by-default-kinds.ps) (z y : resT send-by-default-kinds.r κs .Denot) (e d : AtExit (endedOf 2 send-by-default-kinds.ps send-by-default-kinds.r) κs)
+    → send-by-default-reads.Learnt κs a z e → send-by-default-reads.Learnt κs a y d → (z ≡ y) × (now (e .1 .1 .1 .0) ≡ now (d .1 .1 .1 .0))
+
+-- the same for a foreign caller, with the length
+abbrev pub ForeignSendTight : Type 0
+ForeignSendTight =
+    (κs : Lfts 3) (a : Dens κs fossknut-send-kinds.ps) (z y : resT fossknut-send-kinds.r κs .Denot) (e d : AtExit (endedOf 3 fossknut-send-kinds.ps fossknut-send-kinds.r) κs)
+    → fossknut-send-reads.Learnt κs a z e → fossknut-send-reads.Learnt κs a y d → (z ≡ y) × (now (e .1 .1 .1 .1 .1 .1 .1 .1 .1 .1 .1 .0) ≡ now (d .1 .1 .1 .1 .1 .1 .1 .1 .1 .1 .1 .0)) × (now (e .1 .1 .1 .1 .1 .1 .1 .1 .1 .1 .1 .1 .0) ≡ now (d .1 .1 .1 .1 .1 .1 .1 .1 .1 .1 .1 .1 .0))
+
+abbrev pub ForeignSendByDefaultTight : Type 0
+ForeignSendByDefaultTight =
+    (κs : Lfts 3) (a : Dens κs fossknut-send-by-default-kinds.ps) (z y : resT fossknut-send-by-default-kinds.r κs .Denot) (e d : AtExit (endedOf 3 fossknut-send-by-default-kinds.ps fossknut-send-by-default-kinds.r) κs)
+    → fossknut-send-by-default-reads.Learnt κs a z e → fossknut-send-by-default-reads.Learnt κs a y d → (z ≡ y) × (now (e .1 .1 .1 .1 .1 .1 .1 .1 .1 .1 .0) ≡ now (d .1 .1 .1 .1 .1 .1 .1 .1 .1 .1 .0)) × (now (e .1 .1 .1 .1 .1 .1 .1 .1 .1 .1 .1 .0) ≡ now (d .1 .1 .1 .1 .1 .1 .1 .1 .1 .1 .1 .0))
+
+-- each number that the PES reader writes for a foreign caller
+abbrev pub ForeignPesTight : Type 0
+ForeignPesTight =
+    (κs : Lfts 7) (a : Dens κs fossknut-pes-kinds.ps) (z y : resT fossknut-pes-kinds.r κs .Denot) (e d : AtExit (endedOf 7 fossknut-pes-kinds.ps fossknut-pes-kinds.r) κs)
+    → fossknut-pes-reads.Learnt κs a z e → fossknut-pes-reads.Learnt κs a y d
+    → (z ≡ y) × (now (e .1 .0) ≡ now (d .1 .0)) × (now (e .1 .1 .0) ≡ now (d .1 .1 .0)) × (now (e .1 .1 .1 .0) ≡ now (d .1 .1 .1 .0)) × (now (e .1 .1 .1 .1 .0) ≡ now (d .1 .1 .1 .1 .0)) × (now (e .1 .1 .1 .1 .1 .0) ≡ now (d .1 .1 .1 .1 .1 .0)) × (now (e .1 .1 .1 .1 .1 .1 .0) ≡ now (d .1 .1 .1 .1 .1 .1 .0))
+
 pub record Tight : Type 0 where
   -- wire
   pub byte-at : OneResult 1 byte-at-kinds.ps byte-at-kinds.r byte-at-reads.Learnt
@@ -136,11 +181,17 @@ pub record Tight : Type 0 where
   pub header : OneResult 0 header-kinds.ps header-kinds.r header-reads.Learnt
   pub fault : OneResult 1 fault-kinds.ps fault-kinds.r fault-reads.Learnt
   pub check : OneResult 1 check-kinds.ps check-kinds.r check-reads.Learnt
+  pub good-settings : OneResult 0 good-settings-kinds.ps good-settings-kinds.r good-settings-reads.Learnt
   -- receiver
   pub receive : ReceiveTight
   pub gap : OneResult 0 gap-kinds.ps gap-kinds.r gap-reads.Learnt
   pub number-of : OneResult 0 number-of-kinds.ps number-of-kinds.r number-of-reads.Learnt
   pub length-of : OneResult 0 length-of-kinds.ps length-of-kinds.r length-of-reads.Learnt
+  -- sender
+  pub send : SendTight
+  pub send-by-default : SendByDefaultTight
+  pub sender-number-of : OneResult 0 sender-number-of-kinds.ps sender-number-of-kinds.r sender-number-of-reads.Learnt
+  pub sender-length-of : OneResult 0 sender-length-of-kinds.ps sender-length-of-kinds.r sender-length-of-reads.Learnt
   -- pes
   pub pes-read : OneResult 1 pes-read-kinds.ps pes-read-kinds.r pes-read-reads.Learnt
   pub pes-data : DataTight
@@ -149,3 +200,6 @@ pub record Tight : Type 0 where
   pub fossknut-check : OneResult 1 fossknut-check-kinds.ps fossknut-check-kinds.r fossknut-check-reads.Learnt
   pub fossknut-receive : ForeignReceiveTight
   pub fossknut-gap : ForeignGapTight
+  pub fossknut-send : ForeignSendTight
+  pub fossknut-send-by-default : ForeignSendByDefaultTight
+  pub fossknut-pes : ForeignPesTight
