@@ -1,5 +1,4 @@
 pub mod Answer
 pub mod Bytes
 pub mod Read
-pub mod Samples
 pub mod Written

@@ -1,0 +1,94 @@
+-- Document 01, 'Samples on the bench': each line marked (P), of the rules themselves, as a row of one table. Proved in proofs/Samples.antt.
+use Prim.Native.Nat.{ℕ, _+_}
+use mathlib.Core.Path.{_≡_}
+use mathlib.Core.List.{List, [], _∷_, _++_, flatten}
+use mathlib.Core.Bool.{Bool, true, false}
+use lib.ListN.{replicate, take}
+use Rattle.wire.specs.Choice.{pick}
+use Rattle.rules.specs.declared.Address.{Address}
+use Rattle.rules.specs.declared.Settings.{Settings}
+use Rattle.rules.specs.Check.{check}
+use Rattle.rules.specs.Section.{header, sealed, sectionOf}
+use Rattle.rules.specs.Send.{sections}
+use Rattle.rules.specs.Step.{lengthOf, numberOf, Outcome, stepOf}
+use Rattle.rules.specs.Row.{Event, fresh, gap, Held, next, section}
+use Rattle.pes_rules.specs.declared.Reading.{Reading}
+use Rattle.pes_rules.specs.Packet.{dataOf, readOf}
+use Rattle.notification_rules.specs.Notice.{noticeOf, numberOf as noticeNumber}
+
+-- ---- the bench
+-- 02:00:5E:10:20:30, range 6, at most 16 sections
+abbrev pub own : Settings
+own = record { address = record { mac1 = 0x02; mac2 = 0x00; mac3 = 0x5E; mac4 = 0x10; mac5 = 0x20; mac6 = 0x30 }; range = 6; limit = 16 }
+
+-- a section of our own address: its number, the last number, and a payload of n bytes
+abbrev pub ours : ℕ → ℕ → ℕ → Event
+ours number last n = section (sectionOf (own .address) false number last (replicate n 0))
+
+-- the numbers and unit lengths that a fresh receiver answers, section by section
+unfoldable pub answersFrom : Held → List Event → List ℕ
+answersFrom h [] = []
+answersFrom h (gap ∷ r) = answersFrom (next own h gap) r
+answersFrom h (section s ∷ r) =
+    let o : Outcome = stepOf own (h .state) s (h .buffer) in
+    numberOf (o .step .answer) ∷ lengthOf (o .step .answer) ∷ answersFrom (next own h (section s)) r
+
+-- with a buffer of n bytes
+abbrev pub answers : ℕ → List Event → List ℕ
+answers n r = answersFrom (fresh (replicate n 0)) r
+
+-- what is read of a packet: the answer, extension, rate, and the data
+abbrev pub packet : List ℕ → List ℕ
+packet s = readOf s .answer ∷ readOf s .extension ∷ readOf s .rate ∷ dataOf s
+
+-- the answer to an INT section with no loops for the platform 01 02 04, with this hash
+abbrev pub platform : ℕ → ℕ
+platform hash =
+    noticeNumber (noticeOf (own .address) (sealed (0x4C ∷ 0xB0 ∷ 15 ∷ 0x01 ∷ hash ∷ 0xC1 ∷ 0 ∷ 0 ∷ 0x01 ∷ 0x02 ∷ 0x04 ∷ 0 ∷ 0xF0 ∷ 0 ∷ [])))
+
+-- ---- the table
+-- what the rules give, and what document 01 says
+pub record Sample : Type 0 where
+  pub gives : List ℕ
+  pub says : List ℕ
+
+abbrev pub sample : List ℕ → List ℕ → Sample
+sample g s = record { gives = g; says = s }
+
+unfoldable pub samples : List Sample
+samples =
+    -- (P) address above, payload of 4 bytes, no flag, alone: the header
+    sample (take 12 (flatten (sections own false 4080 (replicate 4 0)))) (0x3E ∷ 0xB0 ∷ 0x11 ∷ 0x30 ∷ 0x20 ∷ 0xC1 ∷ 0 ∷ 0 ∷ 0x10 ∷ 0x5E ∷ 0 ∷ 0x02 ∷ [])
+    -- (P) payload 4,080: the header starts 3E BF FD
+    ∷ sample (take 3 (header (own .address) false 0 0 (4080 + 13))) (0x3E ∷ 0xBF ∷ 0xFD ∷ [])
+    -- (P) 15 bytes: 12
+    ∷ sample (check (replicate 15 0) ∷ []) (12 ∷ [])
+    -- (P) section_length 4,094 in 4,097 bytes: 14
+    ∷ sample (check (0x3E ∷ 0xBF ∷ 0xFE ∷ replicate 4094 0) ∷ []) (14 ∷ [])
+    -- (P) payload lengths 4, 0, 3 in one run: unit of 7; (P) a buffer of 7 takes it
+    ∷ sample (answers 7 (ours 0 2 4 ∷ ours 1 2 0 ∷ ours 2 2 3 ∷ [])) (1 ∷ 0 ∷ 1 ∷ 0 ∷ 0 ∷ 7 ∷ [])
+    -- (P) a buffer of 6 gives 23 at the third
+    ∷ sample (answers 6 (ours 0 2 4 ∷ ours 1 2 0 ∷ ours 2 2 3 ∷ [])) (1 ∷ 0 ∷ 1 ∷ 0 ∷ 23 ∷ 0 ∷ [])
+    -- (P) numbers 0, 1, 1 with L = 2: stored, stored, 22
+    ∷ sample (answers 7 (ours 0 2 0 ∷ ours 1 2 0 ∷ ours 1 2 0 ∷ [])) (1 ∷ 0 ∷ 1 ∷ 0 ∷ 22 ∷ 0 ∷ [])
+    -- (P) numbers 0, gap notice, 1: stored, then 22
+    ∷ sample (answers 7 (ours 0 2 0 ∷ gap ∷ ours 1 2 0 ∷ [])) (1 ∷ 0 ∷ 22 ∷ 0 ∷ [])
+    -- (P) L = 16 with limit 16: 21; L = 15 stored
+    ∷ sample (answers 7 (ours 0 16 0 ∷ ours 0 15 0 ∷ [])) (21 ∷ 0 ∷ 1 ∷ 0 ∷ [])
+    -- (P) packet 21 05 F6 FF 2B F0 1F 40 00 AA BB: extension 299, rate 2,048,000, data AA BB
+    ∷ sample (packet (0x21 ∷ 0x05 ∷ 0xF6 ∷ 0xFF ∷ 0x2B ∷ 0xF0 ∷ 0x1F ∷ 0x40 ∷ 0x00 ∷ 0xAA ∷ 0xBB ∷ [])) (5 ∷ 299 ∷ 2048000 ∷ 0xAA ∷ 0xBB ∷ [])
+    -- (P) 22 00 30: no data
+    ∷ sample (packet (0x22 ∷ 0x00 ∷ 0x30 ∷ [])) (5 ∷ 0 ∷ 0 ∷ [])
+    -- (P) 22 00 31: 43
+    ∷ sample (packet (0x22 ∷ 0x00 ∷ 0x31 ∷ [])) (43 ∷ 0 ∷ 0 ∷ [])
+    -- (P) platform_id 01 02 04 has hash 07; 06 gives 31
+    ∷ sample (platform 0x07 ∷ platform 0x06 ∷ []) (4 ∷ 31 ∷ [])
+    ∷ []
+
+-- every row: what the rules give is what document 01 says
+abbrev pub AllRight : List Sample → Type 0
+AllRight [] = Unit {0}
+AllRight (x ∷ xs) = (x .gives ≡ x .says) × AllRight xs
+
+abbrev pub Samples : Type 0
+Samples = AllRight samples
