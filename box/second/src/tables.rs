@@ -1,4 +1,6 @@
-//! CRC_32 in plain Rust by tables: what a box builder would write, or take from a crate.
+//! CRC_32 by tables: what a box builder would write, or take from a crate.
+//!
+//! What [`crate::crc_32()`] gives bit by bit, in a time that makes a comparison of speeds fair.
 
 /// `TABLES[k][b]` is what the byte `b` does to the register when `k` bytes of zeros follow it.
 static TABLES: [[u32; 256]; 16] = tables();
@@ -80,4 +82,22 @@ const fn shift_byte(mut register: u32) -> u32 {
         bit += 1;
     }
     register
+}
+
+#[cfg(test)]
+mod tests {
+    use super::*;
+    use crate::crc_32;
+    use crate::random::Random;
+
+    #[test]
+    fn as_bit_by_bit() {
+        let bytes = Random::new(1).bytes(5_000);
+        for length in (0..600).chain([4_092, 4_096]) {
+            let slice = &bytes[length % 16..][..length];
+            for by_tables in [bytewise, slicing_by_8, slicing_by_16] {
+                assert_eq!(by_tables(slice), crc_32(slice), "{length} bytes");
+            }
+        }
+    }
 }
