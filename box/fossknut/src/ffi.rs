@@ -36,6 +36,39 @@ extern "C" {
         filled: *mut usize,
         flag: *mut u8,
     );
+    fn fossknut_send(
+        mac_1: u8,
+        mac_2: u8,
+        mac_3: u8,
+        mac_4: u8,
+        mac_5: u8,
+        mac_6: u8,
+        range: usize,
+        limit: usize,
+        flag: u8,
+        size: usize,
+        unit: *const u8,
+        unit_length: usize,
+        output: *mut u8,
+        output_length: usize,
+        length: *mut usize,
+    ) -> u8;
+    fn fossknut_send_by_default(
+        mac_1: u8,
+        mac_2: u8,
+        mac_3: u8,
+        mac_4: u8,
+        mac_5: u8,
+        mac_6: u8,
+        range: usize,
+        limit: usize,
+        flag: u8,
+        unit: *const u8,
+        unit_length: usize,
+        output: *mut u8,
+        output_length: usize,
+        length: *mut usize,
+    ) -> u8;
 }
 
 /// A receiver's state in numbers: idle where `open` is 0, the flag set where `flag` is not.
@@ -106,4 +139,68 @@ pub(crate) fn gap(state: &mut State) {
             &mut state.flag,
         );
     }
+}
+
+/// The answer's number, and the length of the sections. `flag` is set where it is not 0.
+pub(crate) fn send(
+    settings: &Settings,
+    flag: u8,
+    size: usize,
+    unit: &[u8],
+    output: &mut [u8],
+) -> (u8, usize) {
+    let [mac_1, mac_2, mac_3, mac_4, mac_5, mac_6] = settings.address;
+    let mut length = 0;
+    // SAFETY: as for `receive`; `unit` is only read.
+    let number = unsafe {
+        fossknut_send(
+            mac_1,
+            mac_2,
+            mac_3,
+            mac_4,
+            mac_5,
+            mac_6,
+            settings.range,
+            settings.limit,
+            flag,
+            size,
+            unit.as_ptr(),
+            unit.len(),
+            output.as_mut_ptr(),
+            output.len(),
+            &mut length,
+        )
+    };
+    (number, length)
+}
+
+/// [`send`] by the library's own piece size.
+pub(crate) fn send_by_default(
+    settings: &Settings,
+    flag: u8,
+    unit: &[u8],
+    output: &mut [u8],
+) -> (u8, usize) {
+    let [mac_1, mac_2, mac_3, mac_4, mac_5, mac_6] = settings.address;
+    let mut length = 0;
+    // SAFETY: as for `send`.
+    let number = unsafe {
+        fossknut_send_by_default(
+            mac_1,
+            mac_2,
+            mac_3,
+            mac_4,
+            mac_5,
+            mac_6,
+            settings.range,
+            settings.limit,
+            flag,
+            unit.as_ptr(),
+            unit.len(),
+            output.as_mut_ptr(),
+            output.len(),
+            &mut length,
+        )
+    };
+    (number, length)
 }

@@ -28,10 +28,12 @@ mod ffi;
 #[macro_use]
 mod refusal;
 mod receiver;
+mod sender;
 mod settings;
 
 pub use receiver::{Answer, Receiver};
 pub use refusal::Refusal;
+pub use sender::send;
 pub use settings::Settings;
 
 /// The CRC_32 of ISO/IEC 13818-1 (elsewhere CRC-32/MPEG-2) over all of `bytes`.

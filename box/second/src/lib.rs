@@ -15,6 +15,7 @@ pub mod receiver;
 pub mod recording;
 pub mod row;
 pub mod section;
+pub mod sender;
 pub mod tables;
 pub mod telling;
 pub mod vectors;

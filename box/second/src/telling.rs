@@ -3,6 +3,8 @@
 
 mod row;
 mod section;
+mod sending;
 
 pub use row::{rows, Row};
 pub use section::{sections, Section};
+pub use sending::{sendings, Sending};

@@ -9,6 +9,7 @@ mod ffi;
 mod guarded;
 mod receiver;
 mod refusal;
+mod sender;
 
 use fossknut::{Refusal, Settings};
 use guarded::Guarded;

@@ -225,7 +225,7 @@ fn settings_and_states_of_any_value() {
         };
         let mut pair = memory.pair(Receiver {
             settings,
-            state: (!random.one_in(8)).then(|| run),
+            state: (!random.one_in(8)).then_some(run),
             buffer: vec![random.byte(); length],
         });
         // READINGS A12: any number but 0 is a 1.

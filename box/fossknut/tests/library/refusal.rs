@@ -4,7 +4,7 @@ use fossknut::Refusal;
 
 #[test]
 fn each_number_of_the_papers_has_one_refusal() {
-    let of_the_papers: Vec<u8> = (10..=23).collect();
+    let of_the_papers: Vec<u8> = (10..=23).chain(50..=53).collect();
     let numbers = Refusal::ALL.iter().map(|refusal| refusal.number());
     assert_eq!(numbers.collect::<Vec<_>>(), of_the_papers);
     for number in 0..=0xFF {
