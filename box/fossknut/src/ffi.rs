@@ -69,7 +69,21 @@ extern "C" {
         output_length: usize,
         length: *mut usize,
     ) -> u8;
+    fn fossknut_notification(
+        mac_1: u8,
+        mac_2: u8,
+        mac_3: u8,
+        mac_4: u8,
+        mac_5: u8,
+        mac_6: u8,
+        section: *const u8,
+        section_length: usize,
+        place: *mut usize,
+    ) -> u8;
 }
+
+/// What a number holds that the library has to write, whatever it answers.
+const UNWRITTEN: usize = usize::MAX;
 
 /// A receiver's state in numbers: idle where `open` is 0, the flag set where `flag` is not.
 #[derive(Clone, Copy, Debug, Default, PartialEq, Eq)]
@@ -100,7 +114,7 @@ pub(crate) fn receive(
     buffer: &mut [u8],
 ) -> (u8, usize) {
     let [mac_1, mac_2, mac_3, mac_4, mac_5, mac_6] = settings.address;
-    let mut length = 0;
+    let mut length = UNWRITTEN;
     // SAFETY: each pointer and length are those of one slice, and the other pointers those of
     // numbers; no two of them overlap, and none is kept. `section` is only read.
     let number = unsafe {
@@ -150,7 +164,7 @@ pub(crate) fn send(
     output: &mut [u8],
 ) -> (u8, usize) {
     let [mac_1, mac_2, mac_3, mac_4, mac_5, mac_6] = settings.address;
-    let mut length = 0;
+    let mut length = UNWRITTEN;
     // SAFETY: as for `receive`; `unit` is only read.
     let number = unsafe {
         fossknut_send(
@@ -182,7 +196,7 @@ pub(crate) fn send_by_default(
     output: &mut [u8],
 ) -> (u8, usize) {
     let [mac_1, mac_2, mac_3, mac_4, mac_5, mac_6] = settings.address;
-    let mut length = 0;
+    let mut length = UNWRITTEN;
     // SAFETY: as for `send`.
     let number = unsafe {
         fossknut_send_by_default(
@@ -203,4 +217,26 @@ pub(crate) fn send_by_default(
         )
     };
     (number, length)
+}
+
+/// The answer's number, and where in the section the nine bytes are.
+pub(crate) fn notification(device: [u8; 6], section: &[u8]) -> (u8, usize) {
+    let [mac_1, mac_2, mac_3, mac_4, mac_5, mac_6] = device;
+    let mut place = UNWRITTEN;
+    // SAFETY: pointer and length are those of one slice, which is only read, and the other pointer
+    // is that of a number; neither is kept.
+    let number = unsafe {
+        fossknut_notification(
+            mac_1,
+            mac_2,
+            mac_3,
+            mac_4,
+            mac_5,
+            mac_6,
+            section.as_ptr(),
+            section.len(),
+            &mut place,
+        )
+    };
+    (number, place)
 }

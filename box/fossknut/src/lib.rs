@@ -27,6 +27,7 @@
 mod ffi;
 #[macro_use]
 mod refusal;
+pub mod notification;
 mod receiver;
 mod sender;
 mod settings;

@@ -10,6 +10,7 @@
 
 mod crc_32;
 pub mod generator;
+pub mod notification;
 pub mod random;
 pub mod receiver;
 pub mod recording;
