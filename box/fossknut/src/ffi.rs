@@ -80,6 +80,16 @@ extern "C" {
         section_length: usize,
         place: *mut usize,
     ) -> u8;
+    fn fossknut_pes(
+        packet: *const u8,
+        packet_length: usize,
+        extension_flag: *mut u8,
+        rate_flag: *mut u8,
+        extension: *mut usize,
+        rate: *mut usize,
+        start: *mut usize,
+        length: *mut usize,
+    ) -> u8;
 }
 
 /// What a number holds that the library has to write, whatever it answers.
@@ -239,4 +249,41 @@ pub(crate) fn notification(device: [u8; 6], section: &[u8]) -> (u8, usize) {
         )
     };
     (number, place)
+}
+
+/// What the library reads from a PES data packet: the data part is `length` bytes from `start` on.
+#[derive(Clone, Copy, Debug, PartialEq, Eq)]
+pub(crate) struct Pes {
+    pub(crate) extension_flag: u8,
+    pub(crate) rate_flag: u8,
+    pub(crate) extension: usize,
+    pub(crate) rate: usize,
+    pub(crate) start: usize,
+    pub(crate) length: usize,
+}
+
+/// The answer's number, and what was read.
+pub(crate) fn pes(packet: &[u8]) -> (u8, Pes) {
+    let mut pes = Pes {
+        extension_flag: u8::MAX,
+        rate_flag: u8::MAX,
+        extension: UNWRITTEN,
+        rate: UNWRITTEN,
+        start: UNWRITTEN,
+        length: UNWRITTEN,
+    };
+    // SAFETY: as for `notification`.
+    let number = unsafe {
+        fossknut_pes(
+            packet.as_ptr(),
+            packet.len(),
+            &mut pes.extension_flag,
+            &mut pes.rate_flag,
+            &mut pes.extension,
+            &mut pes.rate,
+            &mut pes.start,
+            &mut pes.length,
+        )
+    };
+    (number, pes)
 }

@@ -28,6 +28,7 @@ mod ffi;
 #[macro_use]
 mod refusal;
 pub mod notification;
+pub mod pes;
 mod receiver;
 mod sender;
 mod settings;

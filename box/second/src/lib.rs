@@ -11,6 +11,7 @@
 mod crc_32;
 pub mod generator;
 pub mod notification;
+pub mod pes;
 pub mod random;
 pub mod receiver;
 pub mod recording;

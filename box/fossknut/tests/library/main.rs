@@ -8,6 +8,7 @@ mod crc_32;
 mod ffi;
 mod guarded;
 mod notification;
+mod pes;
 mod receiver;
 mod refusal;
 mod sender;

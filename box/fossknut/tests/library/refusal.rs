@@ -1,6 +1,6 @@
 //! The names and texts that the wrapper gives the numbers.
 
-use fossknut::{notification, Refusal};
+use fossknut::{notification, pes, Refusal};
 
 /// The numbers that a type of refusals has, each of which has to lead back to it.
 macro_rules! numbers {
@@ -19,6 +19,7 @@ fn each_number_of_the_papers_has_one_refusal() {
     assert_eq!(numbers!(Refusal), sections);
     let notifications: Vec<u8> = (12..=18).chain(30..=33).collect();
     assert_eq!(numbers!(notification::Refusal), notifications);
+    assert_eq!(numbers!(pes::Refusal), [40, 41, 42, 43]);
 }
 
 #[test]
