@@ -1,6 +1,7 @@
 //! Inputs for the tests: sections made as a sender makes them, and faults put into them on purpose.
 
 pub mod notifications;
+pub mod recordings;
 pub mod rows;
 
 use crate::random::Random;

@@ -8,8 +8,10 @@
 #![deny(missing_docs)]
 #![forbid(unsafe_code)]
 
+pub mod archive;
 mod crc_32;
 pub mod generator;
+pub mod listing;
 pub mod notification;
 pub mod pes;
 pub mod random;

@@ -216,7 +216,7 @@ fn misfit(random: &mut Random, mut section: Vec<u8>, loops: &[Vec<u8>]) -> Vec<u
 }
 
 /// Puts one fault in, save those that stand only in a section that is otherwise done.
-fn spoil(random: &mut Random, section: &mut Vec<u8>, fault: u8) {
+fn spoil(random: &mut Random, section: &mut [u8], fault: u8) {
     match fault {
         13 => section[0] = random.pick(&[0x3E, 0x4B, 0x4D, 0xCC]),
         14 => {

@@ -1,6 +1,7 @@
 //! Rows for the receiver.
 
 use crate::generator::{sound, with_byte, OURS};
+use crate::listing::SETTINGS;
 use crate::receiver::{Run, Settings};
 use crate::row::Event::{self, Gap, Section};
 
@@ -33,11 +34,7 @@ pub fn rows() -> Vec<Row> {
 fn row(source: &'static str, events: Vec<Event>, answers: &[(u8, usize)]) -> Row {
     Row {
         source,
-        settings: Settings {
-            address: OURS,
-            range: 6,
-            limit: 16,
-        },
+        settings: SETTINGS,
         state: None,
         buffer_length: 65_535,
         events,
@@ -114,7 +111,7 @@ fn states() -> Vec<Row> {
 
 #[rustfmt::skip] // a row a line
 fn first_sections() -> Vec<Row> {
-    let limit = |limit| Settings { address: OURS, range: 6, limit };
+    let limit = |limit| Settings { limit, ..SETTINGS };
     let run = Some(Run { next: 1, last: 2, filled: 9, flag: false });
     vec![
         Row { settings: limit(255), ..row("A9: L = 255 with limit 255", vec![ours(0, 255, 0)], &[(21, 0)]) },

@@ -1,6 +1,7 @@
 //! Units for the sender.
 
 use crate::generator::{sound, OURS};
+use crate::listing::SETTINGS;
 use crate::receiver::Settings;
 
 /// A unit to send, and what has to come of it.
@@ -40,11 +41,7 @@ fn sending(
 ) -> Sending {
     Sending {
         source,
-        settings: Settings {
-            address: OURS,
-            range: 6,
-            limit: 16,
-        },
+        settings: SETTINGS,
         flag: 0,
         piece_size,
         unit: vec![0x55; unit_length],
@@ -67,7 +64,7 @@ fn samples_of_01() -> Vec<Sending> {
 
 #[rustfmt::skip] // a row a line
 fn numbers() -> Vec<Sending> {
-    let settings = Settings { address: OURS, range: 6, limit: 256 };
+    let settings = Settings { limit: 256, ..SETTINGS };
     let with_flag = vec![0x3E, 0xB0, 0x0D, 0x30, 0x20, 0xC3];
     vec![
         Sending { flag: 1, output: with_flag.clone(), ..sending("A12: flag 1", None, 0, (0, 16)) },
