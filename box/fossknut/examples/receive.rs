@@ -1,6 +1,7 @@
 //! Receives the datagrams of a recording: `receive [FILE]`, standard input without a file.
 //!
-//! A line a section: its offset, the receiver's answer, and the length of the unit that it delivers.
+//! A line a section: its offset, the receiver's answer, and the length of the unit that it
+//! delivers.
 
 mod recording;
 

@@ -1,9 +1,9 @@
 //! The proved core of Fossknut for a box written in Rust: safe functions over the static library
 //! `libexports.a`.
 //!
-//! [`Receiver`] joins datagram sections to units, [`send`] cuts units into sections, [`check`] tells
-//! whether a section is sound; [`notification`] and [`pes`] read the other two formats of EN 301 192
-//! that the box needs.
+//! [`Receiver`] joins datagram sections to units, [`send`] cuts units into sections, [`check`]
+//! tells whether a section is sound; [`notification`] and [`pes`] read the other two formats of EN
+//! 301 192 that the box needs.
 //!
 //! What these functions answer is proved, in Rattle, for every slice. This crate adds Rust's types
 //! and nothing else; the calls across the boundary are in one small module. The build takes the

@@ -65,8 +65,8 @@ impl<'a> Location<'a> {
     }
 }
 
-/// Where the stream for `device` is, its address as printed: the location of the first pair of loops
-/// that covers the device and has one; none if there is no such pair.
+/// Where the stream for `device` is, its address as printed: the location of the first pair of
+/// loops that covers the device and has one; none if there is no such pair.
 ///
 /// The slice has to be the whole section and nothing else, from table_id to CRC_32.
 ///

@@ -7,8 +7,8 @@ refusals! {
     Refusal {
         Length = 40, "fewer than 3 or more than 65,535 bytes";
         DataIdentifier = 41, "data_identifier neither 0x21 nor 0x22";
-        Flags = 42, "no extension flag in a synchronous packet, or a rate flag in a synchronized one";
-        HeaderLength = 43, "header length below the flagged fields, or beyond the packet";
+        Flags = 42, "no extension flag for 0x21, or a rate flag for 0x22";
+        HeaderLength = 43, "header length H below the flagged fields, or 3 + H beyond the packet";
     }
 }
 

@@ -1,4 +1,5 @@
-//! Writes the sample recordings, and what the check and the listing give for each: `samples FOLDER`.
+//! Writes the sample recordings, and what the check and the listing give for each: `samples
+//! FOLDER`.
 
 use std::fmt::Write;
 use std::fs;

@@ -4,13 +4,14 @@ pub mod notifications;
 pub mod recordings;
 pub mod rows;
 
+use crate::listing::SETTINGS;
 use crate::random::Random;
 use crate::section::{BEFORE_LENGTH, CRC_32, HEADER, LONGEST, SHORTEST, TABLE_ID};
 use crate::sender::write_section;
 use crate::tables::slicing_by_16 as crc_32;
 
 /// The address of the papers' samples, 02:00:5E:10:20:30.
-pub const OURS: [u8; 6] = [0x02, 0x00, 0x5E, 0x10, 0x20, 0x30];
+pub const OURS: [u8; 6] = SETTINGS.address;
 
 /// The checks of a section, in their order.
 pub const CHECKS: [u8; 8] = [12, 13, 14, 15, 16, 17, 18, 19];

@@ -2,12 +2,11 @@
 
 use std::io::{self, BufReader, BufWriter, Read, Write};
 
-use crate::generator::OURS;
 use crate::receiver::{Receiver, Settings};
 
 /// The settings of the programs.
 pub const SETTINGS: Settings = Settings {
-    address: OURS,
+    address: [0x02, 0x00, 0x5E, 0x10, 0x20, 0x30],
     range: 6,
     limit: 16,
 };

@@ -53,8 +53,8 @@ fn print_names() -> io::Result<()> {
     writeln!(io::stdout(), "{}", names.join("\n"))
 }
 
-/// A read of a datagram socket gives one datagram, however many wait: here one byte, and none at the
-/// end.
+/// A read of a datagram socket gives one datagram, however many wait: here one byte, and none at
+/// the end.
 fn dribble(program: &str, arguments: &[&str]) -> io::Result<()> {
     let (ours, theirs) = UnixDatagram::pair()?;
     let mut child = Command::new(program)

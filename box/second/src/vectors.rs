@@ -75,8 +75,9 @@ pub const CRC_32: &[Vector] = &[
     },
 ];
 
-/// What the program prints: for each vector `crc_32`, its name and the value in eight digits, then for
-/// each unit `send`, its length, the piece size, the number of sections and their length in all.
+/// What the program prints: for each vector `crc_32`, its name and the value in eight digits, then
+/// for each unit `send`, its length, the piece size, the number of sections and their length in
+/// all.
 pub fn lines() -> String {
     let mut lines = String::new();
     for vector in CRC_32 {

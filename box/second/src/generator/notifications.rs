@@ -62,8 +62,8 @@ pub fn any_notification(random: &mut Random) -> ([u8; 6], Vec<u8>) {
     faulty(random, &[])
 }
 
-/// A device, and a section to which the checks of `faults` apply, and no others, as far as the check
-/// in front lets one see.
+/// A device, and a section to which the checks of `faults` apply, and no others, as far as the
+/// check in front lets one see.
 pub fn faulty(random: &mut Random, faults: &[u8]) -> ([u8; 6], Vec<u8>) {
     let device = any_device(random);
     let mut loops = any_loops(random, device);
