@@ -3,52 +3,15 @@
 //! A line a section: its offset, and the number of the check that it does not pass, 0 if it is
 //! sound.
 
-use std::env;
-use std::fs::File;
-use std::io::{self, BufWriter, ErrorKind, Read, Write};
+mod recording;
+
 use std::process::ExitCode;
 
 use fossknut::Refusal;
 
 fn main() -> ExitCode {
-    match read_recording().and_then(|recording| print_checks(&recording)) {
-        Ok(()) => ExitCode::SUCCESS,
-        // Whoever reads the lines has seen enough.
-        Err(error) if error.kind() == ErrorKind::BrokenPipe => ExitCode::SUCCESS,
-        Err(error) => {
-            eprintln!("check: {error}");
-            ExitCode::FAILURE
-        }
-    }
-}
-
-fn read_recording() -> io::Result<Vec<u8>> {
-    let mut recording = Vec::new();
-    match env::args_os().nth(1) {
-        Some(file) => File::open(file)?.read_to_end(&mut recording)?,
-        None => io::stdin().read_to_end(&mut recording)?,
-    };
-    Ok(recording)
-}
-
-fn print_checks(recording: &[u8]) -> io::Result<()> {
-    let mut lines = BufWriter::new(io::stdout().lock());
-    let mut offset = 0;
-    while offset < recording.len() {
-        let section = first_section(&recording[offset..]);
+    recording::print_lines(|section| {
         let number = fossknut::check(section).map_or_else(Refusal::number, |()| 0);
-        writeln!(lines, "{offset} {number}")?;
-        offset += section.len();
-    }
-    lines.flush()
-}
-
-/// The bytes that stand for the next section, whatever its table_id (01, "Listing"): 3 +
-/// section_length of them, or what is left if that is less.
-fn first_section(rest: &[u8]) -> &[u8] {
-    if rest.len() < 3 {
-        return rest;
-    }
-    let section_length = u16::from_be_bytes([rest[1], rest[2]]) & 0x0FFF;
-    &rest[..rest.len().min(3 + usize::from(section_length))]
+        number.to_string()
+    })
 }

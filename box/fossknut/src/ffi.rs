@@ -36,7 +36,64 @@ extern "C" {
         filled: *mut usize,
         flag: *mut u8,
     );
+    fn fossknut_send(
+        mac_1: u8,
+        mac_2: u8,
+        mac_3: u8,
+        mac_4: u8,
+        mac_5: u8,
+        mac_6: u8,
+        range: usize,
+        limit: usize,
+        flag: u8,
+        size: usize,
+        unit: *const u8,
+        unit_length: usize,
+        output: *mut u8,
+        output_length: usize,
+        length: *mut usize,
+    ) -> u8;
+    fn fossknut_send_by_default(
+        mac_1: u8,
+        mac_2: u8,
+        mac_3: u8,
+        mac_4: u8,
+        mac_5: u8,
+        mac_6: u8,
+        range: usize,
+        limit: usize,
+        flag: u8,
+        unit: *const u8,
+        unit_length: usize,
+        output: *mut u8,
+        output_length: usize,
+        length: *mut usize,
+    ) -> u8;
+    fn fossknut_notification(
+        mac_1: u8,
+        mac_2: u8,
+        mac_3: u8,
+        mac_4: u8,
+        mac_5: u8,
+        mac_6: u8,
+        section: *const u8,
+        section_length: usize,
+        place: *mut usize,
+    ) -> u8;
+    fn fossknut_pes(
+        packet: *const u8,
+        packet_length: usize,
+        extension_flag: *mut u8,
+        rate_flag: *mut u8,
+        extension: *mut usize,
+        rate: *mut usize,
+        start: *mut usize,
+        length: *mut usize,
+    ) -> u8;
 }
+
+/// What a number holds that the library has to write, whatever it answers.
+const UNWRITTEN: usize = usize::MAX;
 
 /// A receiver's state in numbers: idle where `open` is 0, the flag set where `flag` is not.
 #[derive(Clone, Copy, Debug, Default, PartialEq, Eq)]
@@ -67,7 +124,7 @@ pub(crate) fn receive(
     buffer: &mut [u8],
 ) -> (u8, usize) {
     let [mac_1, mac_2, mac_3, mac_4, mac_5, mac_6] = settings.address;
-    let mut length = 0;
+    let mut length = UNWRITTEN;
     // SAFETY: each pointer and length are those of one slice, and the other pointers those of
     // numbers; no two of them overlap, and none is kept. `section` is only read.
     let number = unsafe {
@@ -106,4 +163,127 @@ pub(crate) fn gap(state: &mut State) {
             &mut state.flag,
         );
     }
+}
+
+/// The answer's number, and the length of the sections. `flag` is set where it is not 0.
+pub(crate) fn send(
+    settings: &Settings,
+    flag: u8,
+    size: usize,
+    unit: &[u8],
+    output: &mut [u8],
+) -> (u8, usize) {
+    let [mac_1, mac_2, mac_3, mac_4, mac_5, mac_6] = settings.address;
+    let mut length = UNWRITTEN;
+    // SAFETY: as for `receive`; `unit` is only read.
+    let number = unsafe {
+        fossknut_send(
+            mac_1,
+            mac_2,
+            mac_3,
+            mac_4,
+            mac_5,
+            mac_6,
+            settings.range,
+            settings.limit,
+            flag,
+            size,
+            unit.as_ptr(),
+            unit.len(),
+            output.as_mut_ptr(),
+            output.len(),
+            &mut length,
+        )
+    };
+    (number, length)
+}
+
+/// [`send`] by the library's own piece size.
+pub(crate) fn send_by_default(
+    settings: &Settings,
+    flag: u8,
+    unit: &[u8],
+    output: &mut [u8],
+) -> (u8, usize) {
+    let [mac_1, mac_2, mac_3, mac_4, mac_5, mac_6] = settings.address;
+    let mut length = UNWRITTEN;
+    // SAFETY: as for `send`.
+    let number = unsafe {
+        fossknut_send_by_default(
+            mac_1,
+            mac_2,
+            mac_3,
+            mac_4,
+            mac_5,
+            mac_6,
+            settings.range,
+            settings.limit,
+            flag,
+            unit.as_ptr(),
+            unit.len(),
+            output.as_mut_ptr(),
+            output.len(),
+            &mut length,
+        )
+    };
+    (number, length)
+}
+
+/// The answer's number, and where in the section the nine bytes are.
+pub(crate) fn notification(device: [u8; 6], section: &[u8]) -> (u8, usize) {
+    let [mac_1, mac_2, mac_3, mac_4, mac_5, mac_6] = device;
+    let mut place = UNWRITTEN;
+    // SAFETY: pointer and length are those of one slice, which is only read, and the other pointer
+    // is that of a number; neither is kept.
+    let number = unsafe {
+        fossknut_notification(
+            mac_1,
+            mac_2,
+            mac_3,
+            mac_4,
+            mac_5,
+            mac_6,
+            section.as_ptr(),
+            section.len(),
+            &mut place,
+        )
+    };
+    (number, place)
+}
+
+/// What the library reads from a PES data packet: the data part is `length` bytes from `start` on.
+#[derive(Clone, Copy, Debug, PartialEq, Eq)]
+pub(crate) struct Pes {
+    pub(crate) extension_flag: u8,
+    pub(crate) rate_flag: u8,
+    pub(crate) extension: usize,
+    pub(crate) rate: usize,
+    pub(crate) start: usize,
+    pub(crate) length: usize,
+}
+
+/// The answer's number, and what was read.
+pub(crate) fn pes(packet: &[u8]) -> (u8, Pes) {
+    let mut pes = Pes {
+        extension_flag: u8::MAX,
+        rate_flag: u8::MAX,
+        extension: UNWRITTEN,
+        rate: UNWRITTEN,
+        start: UNWRITTEN,
+        length: UNWRITTEN,
+    };
+    // SAFETY: as for `notification`.
+    let number = unsafe {
+        fossknut_pes(
+            packet.as_ptr(),
+            packet.len(),
+            &mut pes.extension_flag,
+            &mut pes.rate_flag,
+            &mut pes.extension,
+            &mut pes.rate,
+            &mut pes.start,
+            &mut pes.length,
+        )
+    };
+    (number, pes)
 }

@@ -1,6 +1,10 @@
 //! The proved core of Fossknut for a box written in Rust: safe functions over the static library
 //! `libexports.a`.
 //!
+//! [`Receiver`] joins datagram sections to units, [`send`] cuts units into sections, [`check`]
+//! tells whether a section is sound; [`notification`] and [`pes`] read the other two formats of EN
+//! 301 192 that the box needs.
+//!
 //! What these functions answer is proved, in Rattle, for every slice. This crate adds Rust's types
 //! and nothing else; the calls across the boundary are in one small module. The build takes the
 //! library from the folder `FOSSKNUT_LIB_DIR`, and without it from where `rt staticlib exports`
@@ -27,11 +31,15 @@
 mod ffi;
 #[macro_use]
 mod refusal;
+pub mod notification;
+pub mod pes;
 mod receiver;
+mod sender;
 mod settings;
 
 pub use receiver::{Answer, Receiver};
 pub use refusal::Refusal;
+pub use sender::send;
 pub use settings::Settings;
 
 /// The CRC_32 of ISO/IEC 13818-1 (elsewhere CRC-32/MPEG-2) over all of `bytes`.

@@ -60,7 +60,8 @@ macro_rules! refusals {
 }
 
 refusals! {
-    /// Why a section is refused: the first of the checks that applies to it.
+    /// Why a section is not taken, 10 to 23, or a unit not sent, 10 and 50 to 53: the first that
+    /// applies.
     ///
     /// Prints as its number and meaning:
     ///
@@ -89,5 +90,9 @@ refusals! {
         LastSectionNumber = 21, "last_section_number + 1 above the section limit";
         Continuation = 22, "neither number 0 nor the right continuation";
         Room = 23, "filled length and payload above room";
+        PieceSize = 50, "piece size not 1..4,080";
+        Unit = 51, "unit over 65,535";
+        Sections = 52, "more sections than the limit";
+        Output = 53, "output buffer shorter than the sections";
     }
 }

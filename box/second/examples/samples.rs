@@ -1,10 +1,12 @@
-//! Writes the sample recordings, and what the check gives for each: `samples FOLDER`.
+//! Writes the sample recordings, and what the check and the listing give for each: `samples
+//! FOLDER`.
 
 use std::fmt::Write;
 use std::fs;
 use std::path::PathBuf;
 
 use second::generator::{sound, with_byte, OURS};
+use second::listing::list;
 use second::recording::{offers, LISTING_OF_01};
 
 fn main() -> std::io::Result<()> {
@@ -15,11 +17,16 @@ fn main() -> std::io::Result<()> {
         ("one-damaged-section", one_damaged_section()),
         ("each-number-once", each_number_once()),
         ("listing-of-the-papers", LISTING_OF_01.to_vec()),
+        ("a-lost-section", a_lost_section()),
     ] {
         fs::write(folder.join(name).with_extension("bin"), &recording)?;
         fs::write(
             folder.join(name).with_extension("check"),
             checks(&recording),
+        )?;
+        list(
+            &recording[..],
+            fs::File::create(folder.join(name).with_extension("list"))?,
         )?;
     }
     Ok(())
@@ -69,4 +76,13 @@ fn each_number_once() -> Vec<u8> {
         &sound[..19],
     ]
     .concat()
+}
+
+/// The first and the last of three sections, and a whole unit behind them.
+fn a_lost_section() -> Vec<u8> {
+    let sections = [(0, 2, b"Foss"), (2, 2, b"frog"), (0, 0, b"knut")];
+    sections
+        .into_iter()
+        .flat_map(|(number, last, payload)| sound(OURS, number, last, payload))
+        .collect()
 }

@@ -1,25 +1,29 @@
 //! Inputs for the tests: sections made as a sender makes them, and faults put into them on purpose.
 
+pub mod notifications;
+pub mod recordings;
 pub mod rows;
 
+use crate::listing::SETTINGS;
 use crate::random::Random;
 use crate::section::{BEFORE_LENGTH, CRC_32, HEADER, LONGEST, SHORTEST, TABLE_ID};
+use crate::sender::write_section;
 use crate::tables::slicing_by_16 as crc_32;
 
 /// The address of the papers' samples, 02:00:5E:10:20:30.
-pub const OURS: [u8; 6] = [0x02, 0x00, 0x5E, 0x10, 0x20, 0x30];
+pub const OURS: [u8; 6] = SETTINGS.address;
 
 /// The checks of a section, in their order.
 pub const CHECKS: [u8; 8] = [12, 13, 14, 15, 16, 17, 18, 19];
 
-/// Every set of checks, each in their order: the empty one first, all eight last.
-pub fn sets_of_checks() -> impl Iterator<Item = Vec<u8>> {
-    (0..1_u32 << CHECKS.len()).map(|set| {
-        let chosen = CHECKS
+/// Every set of `numbers`, each in their order: the empty one first, all of them last.
+pub fn subsets(numbers: &[u8]) -> impl Iterator<Item = Vec<u8>> + '_ {
+    (0..1_u32 << numbers.len()).map(move |set| {
+        let chosen = numbers
             .iter()
             .enumerate()
             .filter(|(place, _)| (set >> place) & 1 == 1);
-        chosen.map(|(_, &check)| check).collect()
+        chosen.map(|(_, &number)| number).collect()
     })
 }
 
@@ -31,15 +35,9 @@ pub fn sound(
     last_section_number: u8,
     payload: &[u8],
 ) -> Vec<u8> {
-    let [mac_1, mac_2, mac_3, mac_4, mac_5, mac_6] = address;
-    let mut section = vec![TABLE_ID, 0xB0, 0, mac_6, mac_5, 0xC1];
-    section.extend([section_number, last_section_number]);
-    section.extend([mac_4, mac_3, mac_2, mac_1]);
-    section.extend(payload);
-    section.extend([0; CRC_32]);
-    let section_length = section.len() - BEFORE_LENGTH;
-    set_section_length(&mut section, section_length);
-    seal(&mut section);
+    let mut section = vec![0; SHORTEST + payload.len()];
+    let numbers = [section_number, last_section_number];
+    write_section(&mut section, address, false, numbers, payload);
     section
 }
 
@@ -148,14 +146,6 @@ mod tests {
     use crate::check;
 
     #[test]
-    fn headers_of_the_papers() {
-        // 01, "Samples on the bench"
-        let header = [0x3E, 0xB0, 0x11, 0x30, 0x20, 0xC1, 0, 0, 0x10, 0x5E, 0, 2];
-        assert_eq!(sound(OURS, 0, 0, &[0; 4])[..12], header);
-        assert_eq!(sound(OURS, 0, 0, &[0; 4_080])[..3], [0x3E, 0xBF, 0xFD]);
-    }
-
-    #[test]
     fn sound_sections_are_sound() {
         let mut random = Random::new(1);
         for _ in 0..2_000 {
@@ -166,7 +156,7 @@ mod tests {
     #[test]
     fn the_first_fault_decides() {
         let mut random = Random::new(2);
-        for faults in sets_of_checks() {
+        for faults in subsets(&CHECKS) {
             for _ in 0..20 {
                 let section = faulty(&mut random, &faults);
                 let first = faults.first().copied().unwrap_or(0);

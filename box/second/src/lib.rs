@@ -8,13 +8,18 @@
 #![deny(missing_docs)]
 #![forbid(unsafe_code)]
 
+pub mod archive;
 mod crc_32;
 pub mod generator;
+pub mod listing;
+pub mod notification;
+pub mod pes;
 pub mod random;
 pub mod receiver;
 pub mod recording;
 pub mod row;
 pub mod section;
+pub mod sender;
 pub mod tables;
 pub mod telling;
 pub mod vectors;

@@ -61,12 +61,12 @@ impl Run {
     }
 }
 
-/// What a section is answered.
+/// What a receiver or a sender answers.
 #[derive(Clone, Copy, Debug, PartialEq, Eq)]
 pub struct Answer {
     /// The paper's number.
     pub number: u8,
-    /// The unit's length, 0 unless it is delivered.
+    /// The length of the unit that is delivered or of the sections that are sent, else 0.
     pub length: usize,
 }
 
@@ -150,7 +150,7 @@ impl Receiver {
         let goes_on = usize::from(section.section_number()) == run.next
             && usize::from(section.last_section_number()) == run.last
             && (section.llc_snap_flag() == 1) == run.flag;
-        goes_on.then(|| run.filled)
+        goes_on.then_some(run.filled)
     }
 
     /// Stores the payload of a section that is answered 0 or 1, and gives the unit's length.

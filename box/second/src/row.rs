@@ -95,7 +95,7 @@ fn is_whole(stretch: &[(usize, &Section)], room: usize) -> bool {
     let first = stretch[0].1;
     let length = stretch.iter().map(|(_, section)| section.payload().len());
     stretch.len() == usize::from(first.last_section_number()) + 1
-        && (0..).zip(stretch).all(|(number, (_, section))| {
+        && stretch.iter().zip(0..).all(|((_, section), number)| {
             section.section_number() == number
                 && section.last_section_number() == first.last_section_number()
                 && section.llc_snap_flag() == first.llc_snap_flag()
@@ -117,6 +117,8 @@ fn joined(stretch: &[(usize, &Section)]) -> Whole {
 mod tests {
     use super::*;
     use crate::generator::rows::any_row;
+    use crate::generator::{sound, OURS};
+    use crate::listing::SETTINGS;
     use crate::random::Random;
     use crate::receiver::Receiver;
 
@@ -157,6 +159,21 @@ mod tests {
         }
         assert!(handed_over > 20_000, "{handed_over}");
         assert!(joined > 10_000, "{joined}");
+    }
+
+    #[test]
+    fn the_run_of_most_sections() {
+        let settings = Settings {
+            limit: 255,
+            ..SETTINGS
+        };
+        let section = |number| Event::Section(sound(OURS, number, 254, &[number]));
+        let events: Vec<Event> = (0..=254).map(section).collect();
+        let whole = whole_runs(&settings, 255, &events);
+        assert!(whole[..254].iter().all(Option::is_none));
+        let unit: Vec<u8> = (0..=254).collect();
+        assert_eq!(whole[254].as_ref().map(|run| &run.unit), Some(&unit));
+        assert_eq!(whole_runs(&settings, 254, &events)[254], None);
     }
 
     #[test]

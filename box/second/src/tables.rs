@@ -1,6 +1,6 @@
 //! CRC_32 by tables: what a box builder would write, or take from a crate.
 //!
-//! What [`crate::crc_32`] gives bit by bit, in a time that makes a comparison of speeds fair.
+//! What [`crate::crc_32()`] gives bit by bit, in a time that makes a comparison of speeds fair.
 
 /// `TABLES[k][b]` is what the byte `b` does to the register when `k` bytes of zeros follow it.
 static TABLES: [[u32; 256]; 16] = tables();

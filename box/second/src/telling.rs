@@ -1,8 +1,14 @@
 //! Inputs that tell apart how the papers may be read, each with what has to be answered: the samples
 //! of 01, and those that READINGS gives.
 
+mod notification;
+mod packet;
 mod row;
 mod section;
+mod sending;
 
+pub use notification::{notifications, Notification};
+pub use packet::{packets, Packet};
 pub use row::{rows, Row};
 pub use section::{sections, Section};
+pub use sending::{sendings, Sending};

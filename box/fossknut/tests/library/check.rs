@@ -3,7 +3,7 @@
 use crate::Library;
 use fossknut::Refusal;
 use second::generator::{
-    any_sound, faulty, seal, set_section_length, sets_of_checks, sound, CHECKS, OURS,
+    any_sound, faulty, seal, set_section_length, sound, subsets, CHECKS, OURS,
 };
 use second::random::Random;
 use second::telling;
@@ -169,7 +169,7 @@ fn every_truncation() {
 fn every_set_of_faults() {
     let mut library = Library::new();
     let mut random = Random::new(5);
-    for faults in sets_of_checks() {
+    for faults in subsets(&CHECKS) {
         let first = faults.first().copied().unwrap_or(0);
         for _ in 0..100 {
             let section = faulty(&mut random, &faults);

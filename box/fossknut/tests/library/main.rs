@@ -7,8 +7,12 @@ mod crc_32;
 #[path = "../../src/ffi.rs"]
 mod ffi;
 mod guarded;
+mod notification;
+mod pes;
 mod receiver;
 mod refusal;
+mod sender;
+mod tally;
 
 use fossknut::{Refusal, Settings};
 use guarded::Guarded;
@@ -45,7 +49,7 @@ impl Library {
         })
     }
 
-    fn call<T: PartialEq + std::fmt::Debug>(&mut self, bytes: &[u8], f: fn(&[u8]) -> T) -> T {
+    fn call<T: PartialEq + std::fmt::Debug>(&mut self, bytes: &[u8], f: impl Fn(&[u8]) -> T) -> T {
         let at_end = self.memory.at_end(bytes);
         let answer = f(at_end);
         assert!(at_end == bytes, "the call changed its input");

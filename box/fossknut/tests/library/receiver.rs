@@ -1,6 +1,7 @@
 //! The receiver, and the rows of demand 3.
 
 use crate::guarded::Guarded;
+use crate::tally::Tally;
 use crate::{ffi, settings};
 use fossknut::Answer;
 use second::generator::rows::{any_row, any_state, bad_settings, good_settings};
@@ -19,26 +20,6 @@ fn numbers(state: Option<Run>) -> ffi::State {
         filled: run.filled,
         flag: run.flag.into(),
     })
-}
-
-/// How often each answer was given.
-struct Tally([usize; 256]);
-
-impl Tally {
-    fn new() -> Self {
-        Self([0; 256])
-    }
-
-    fn count(&mut self, number: u8) {
-        self.0[usize::from(number)] += 1;
-    }
-
-    fn assert_all(&self, numbers: impl IntoIterator<Item = u8>, times: usize) {
-        for number in numbers {
-            let given = self.0[usize::from(number)];
-            assert!(given >= times, "{number} was answered {given} times");
-        }
-    }
 }
 
 /// Guarded memory for a receiver: one for its buffer, one for the sections.
@@ -225,7 +206,7 @@ fn settings_and_states_of_any_value() {
         };
         let mut pair = memory.pair(Receiver {
             settings,
-            state: (!random.one_in(8)).then(|| run),
+            state: (!random.one_in(8)).then_some(run),
             buffer: vec![random.byte(); length],
         });
         // READINGS A12: any number but 0 is a 1.

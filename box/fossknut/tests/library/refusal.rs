@@ -1,21 +1,25 @@
 //! The names and texts that the wrapper gives the numbers.
 
-use fossknut::Refusal;
+use fossknut::{notification, pes, Refusal};
+
+/// The numbers that a type of refusals has, each of which has to lead back to it.
+macro_rules! numbers {
+    ($refusal:ty) => {{
+        let of_number = |number| <$refusal>::from_number(number).map(<$refusal>::number);
+        let numbers: Vec<u8> = (0..=0xFF).filter_map(of_number).collect();
+        let all = <$refusal>::ALL.iter().map(|refusal| refusal.number());
+        assert_eq!(all.collect::<Vec<_>>(), numbers);
+        numbers
+    }};
+}
 
 #[test]
 fn each_number_of_the_papers_has_one_refusal() {
-    let of_the_papers: Vec<u8> = (10..=23).collect();
-    let numbers = Refusal::ALL.iter().map(|refusal| refusal.number());
-    assert_eq!(numbers.collect::<Vec<_>>(), of_the_papers);
-    for number in 0..=0xFF {
-        let refusal = Refusal::from_number(number);
-        assert_eq!(
-            refusal.is_some(),
-            of_the_papers.contains(&number),
-            "{number}"
-        );
-        assert!(refusal.map_or(true, |refusal| refusal.number() == number));
-    }
+    let sections: Vec<u8> = (10..=23).chain(50..=53).collect();
+    assert_eq!(numbers!(Refusal), sections);
+    let notifications: Vec<u8> = (12..=18).chain(30..=33).collect();
+    assert_eq!(numbers!(notification::Refusal), notifications);
+    assert_eq!(numbers!(pes::Refusal), [40, 41, 42, 43]);
 }
 
 #[test]

@@ -20,16 +20,22 @@ pub struct Row {
 /// A row of some runs, by settings under which most of them can be received.
 pub fn any_row(random: &mut Random) -> Row {
     let settings = good_settings(random);
-    let mut sections = Vec::new();
-    for _ in 0..random.between(1, 5) {
-        sections.extend(any_run(random, &settings));
-    }
-    disturb(random, &mut sections);
+    let sections = disturbed_runs(random, &settings);
     Row {
         settings,
         buffer_length: any_buffer_length(random),
         events: events(random, sections),
     }
+}
+
+/// The sections of some runs, disturbed.
+pub fn disturbed_runs(random: &mut Random, settings: &Settings) -> Vec<Vec<u8>> {
+    let mut sections = Vec::new();
+    for _ in 0..random.between(1, 5) {
+        sections.extend(any_run(random, settings));
+    }
+    disturb(random, &mut sections);
+    sections
 }
 
 /// Any address; all ranges; small limits more often.
@@ -57,7 +63,7 @@ fn any_buffer_length(random: &mut Random) -> usize {
 }
 
 /// The sections of one unit, in order: a few more often than many, and seldom one too many.
-fn any_run(random: &mut Random, settings: &Settings) -> Vec<Vec<u8>> {
+pub fn any_run(random: &mut Random, settings: &Settings) -> Vec<Vec<u8>> {
     let most = settings.limit.min(6) - 1;
     let last = match random.below(64) {
         0 => random.below(256),

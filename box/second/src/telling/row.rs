@@ -1,6 +1,7 @@
 //! Rows for the receiver.
 
 use crate::generator::{sound, with_byte, OURS};
+use crate::listing::SETTINGS;
 use crate::receiver::{Run, Settings};
 use crate::row::Event::{self, Gap, Section};
 
@@ -23,6 +24,7 @@ pub struct Row {
 /// All of them.
 pub fn rows() -> Vec<Row> {
     let mut rows = samples_of_01();
+    rows.extend(continuations());
     rows.extend(passing_by());
     rows.extend(states());
     rows.extend(first_sections());
@@ -33,11 +35,7 @@ pub fn rows() -> Vec<Row> {
 fn row(source: &'static str, events: Vec<Event>, answers: &[(u8, usize)]) -> Row {
     Row {
         source,
-        settings: Settings {
-            address: OURS,
-            range: 6,
-            limit: 16,
-        },
+        settings: SETTINGS,
         state: None,
         buffer_length: 65_535,
         events,
@@ -89,6 +87,20 @@ fn samples_of_01() -> Vec<Row> {
 }
 
 #[rustfmt::skip] // a row a line
+fn continuations() -> Vec<Row> {
+    let flagged = Section(with_byte(&sound(OURS, 1, 1, b"knut"), 5, 0xC3));
+    let gone = vec![ours(0, 2, 1), ours(2, 2, 1), ours(1, 2, 1)];
+    let refused = [(1, 0), (22, 0)];
+    vec![
+        row("01: only with the same flag", vec![ours(0, 1, 1), flagged], &refused),
+        row("01: only with the same L", vec![ours(0, 2, 1), ours(1, 1, 1)], &refused),
+        row("01: only if it is e", vec![ours(0, 2, 1), ours(2, 2, 1)], &refused),
+        row("01: 22 leaves the receiver idle", gone, &[(1, 0), (22, 0), (22, 0)]),
+        row("01: an idle state", vec![ours(1, 1, 1)], &[(22, 0)]),
+    ]
+}
+
+#[rustfmt::skip] // a row a line
 fn passing_by() -> Vec<Row> {
     let between = |event| vec![ours(0, 1, 2), event, ours(1, 1, 3)];
     vec![
@@ -102,11 +114,12 @@ fn passing_by() -> Vec<Row> {
 #[rustfmt::skip] // a row a line
 fn states() -> Vec<Row> {
     let run = |next, last, filled| Some(Run { next, last, filled, flag: false });
+    let too_long = vec![ours(0, 1, 6), ours(1, 1, 1)];
     vec![
         Row { state: run(1, 200, 0), ..row("A7: a state above the limit", vec![ours(1, 200, 1)], &[(21, 0)]) },
         Row { state: run(1, 1, 50), buffer_length: 49, ..row("A7: a state above the buffer", vec![ours(1, 1, 0)], &[(23, 0)]) },
         Row { state: run(1, 1, 50), buffer_length: 50, ..row("A7: a state that fills the buffer", vec![ours(1, 1, 0)], &[(0, 50)]) },
-        Row { state: run(1, 1, 4), buffer_length: 5, ..row("A8: number 0 above the room", vec![ours(0, 1, 6), ours(1, 1, 1)], &[(23, 0), (22, 0)]) },
+        Row { state: run(1, 1, 4), buffer_length: 5, ..row("A8: number 0 above the room", too_long, &[(23, 0), (22, 0)]) },
         Row { state: run(0, 300, 7), ..row("A10: a gap notice in a bad state", vec![Gap, ours(0, 0, 1)], &[(0, 1)]) },
         Row { state: run(0, 300, 7), ..row("11 before 12", vec![Section(vec![])], &[(11, 0)]) },
     ]
@@ -114,7 +127,7 @@ fn states() -> Vec<Row> {
 
 #[rustfmt::skip] // a row a line
 fn first_sections() -> Vec<Row> {
-    let limit = |limit| Settings { address: OURS, range: 6, limit };
+    let limit = |limit| Settings { limit, ..SETTINGS };
     let run = Some(Run { next: 1, last: 2, filled: 9, flag: false });
     vec![
         Row { settings: limit(255), ..row("A9: L = 255 with limit 255", vec![ours(0, 255, 0)], &[(21, 0)]) },

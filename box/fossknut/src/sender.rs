@@ -1,0 +1,56 @@
+//! The sender of datagram sections.
+
+use crate::ffi;
+use crate::{Refusal, Settings};
+
+/// Cuts `unit` into datagram sections for `settings.address`, back to back from the start of
+/// `output`, and gives their length in all.
+///
+/// Each section carries `piece_size` bytes of the unit, 1 to 4,080, the last one the rest; without
+/// a piece size it is 4,080. An empty unit is sent, too: as one section without payload. A section
+/// has 16 bytes beside its piece. `llc_snap` says that the unit begins with an LLC/SNAP header; it
+/// is not looked at here.
+///
+/// The bytes of `output` behind the sections stay as they were.
+///
+/// ```
+/// use fossknut::{Answer, Receiver, Settings};
+///
+/// let address = [0x02, 0x00, 0x5E, 0x10, 0x20, 0x30];
+/// let settings = Settings { address, range: 6, limit: 16 };
+/// let unit = [0x55; 4_081];
+/// let mut output = [0; 5_000];
+/// let length = fossknut::send(&settings, false, None, &unit, &mut output)?;
+/// assert_eq!(length, 4_096 + 17);
+///
+/// let mut receiver = Receiver::new(settings, vec![0; 65_535]);
+/// assert_eq!(receiver.receive(&output[..4_096]), Answer::Stored);
+/// assert_eq!(receiver.receive(&output[4_096..length]), Answer::Delivered(&unit));
+/// # Ok::<(), fossknut::Refusal>(())
+/// ```
+///
+/// # Errors
+///
+/// The first of the refusals 10 and 50 to 53 that applies; `output` is as it was.
+///
+/// # Panics
+///
+/// If the library answers a number that this crate does not know, which means that the two are of
+/// different versions.
+pub fn send(
+    settings: &Settings,
+    llc_snap: bool,
+    piece_size: Option<usize>,
+    unit: &[u8],
+    output: &mut [u8],
+) -> Result<usize, Refusal> {
+    let flag = llc_snap.into();
+    let answer = match piece_size {
+        Some(size) => ffi::send(settings, flag, size, unit, output),
+        None => ffi::send_by_default(settings, flag, unit, output),
+    };
+    match answer {
+        (0, length) => Ok(length),
+        (number, _) => Err(Refusal::answered(number)),
+    }
+}

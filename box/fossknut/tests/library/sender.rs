@@ -1,0 +1,276 @@
+//! The sender, and the way back through the receiver.
+
+use crate::guarded::Guarded;
+use crate::{ffi, settings};
+use fossknut::{Answer, Refusal};
+use second::generator::rows::{bad_settings, good_settings};
+use second::generator::{subsets, OURS};
+use second::random::Random;
+use second::receiver::Settings;
+use second::recording::offers;
+use second::telling;
+
+/// What stands in an output buffer before the call.
+const PATTERN: u8 = 0xA5;
+
+/// One call of the sender.
+struct Call<'a> {
+    settings: Settings,
+    flag: u8,
+    piece_size: Option<usize>,
+    unit: &'a [u8],
+}
+
+impl Call<'_> {
+    /// What the second program answers, and the whole output buffer after it.
+    fn second(&self, output_length: usize) -> ((u8, usize), Vec<u8>) {
+        let mut output = vec![PATTERN; output_length];
+        let flag = self.flag != 0;
+        let answer = second::sender::send(
+            &self.settings,
+            flag,
+            self.piece_size,
+            self.unit,
+            &mut output,
+        );
+        ((answer.number, answer.length), output)
+    }
+}
+
+/// Guarded memory for a sender: one for its output, one for the unit.
+struct Memory {
+    output: Guarded,
+    unit: Guarded,
+}
+
+impl Memory {
+    fn new() -> Self {
+        Self {
+            output: Guarded::new(),
+            unit: Guarded::new(),
+        }
+    }
+
+    /// The library's answer and output, which have to be these.
+    fn expect(&mut self, call: &Call, answer: (u8, usize), expected: &[u8]) {
+        let output = self.output.at_end(&vec![PATTERN; expected.len()]);
+        let unit = self.unit.at_end(call.unit);
+        let settings = settings(&call.settings);
+        let given = match call.piece_size {
+            Some(size) => ffi::send(&settings, call.flag, size, unit, output),
+            None => ffi::send_by_default(&settings, call.flag, unit, output),
+        };
+        let of = (call.unit.len(), call.piece_size, expected.len());
+        assert_eq!(given, answer, "unit, piece size and output buffer {of:?}");
+        assert!(output == expected, "the outputs differ: {of:?}");
+        assert!(unit == call.unit, "the call changed its input");
+    }
+
+    /// Buffers one short, exact, and, at every third length of a unit, larger.
+    fn around(&mut self, call: &Call) -> (u8, usize) {
+        let (answer, mut output) = call.second(call.unit.len() + 16 * 256);
+        output.truncate(answer.1 + 9);
+        if call.unit.len() % 3 == 0 || answer.0 != 0 {
+            self.expect(call, answer, &output);
+        }
+        if answer.0 == 0 {
+            self.expect(call, answer, &output[..answer.1]);
+            self.expect(call, (53, 0), &vec![PATTERN; answer.1 - 1]);
+        }
+        answer
+    }
+}
+
+#[test]
+fn telling_inputs() {
+    let mut memory = Memory::new();
+    for sending in telling::sendings() {
+        let call = Call {
+            settings: sending.settings,
+            flag: sending.flag,
+            piece_size: sending.piece_size,
+            unit: &sending.unit,
+        };
+        let (answer, output) = call.second(sending.output_length);
+        assert_eq!(answer, sending.answer, "{}", sending.source);
+        memory.expect(&call, answer, &output);
+    }
+}
+
+/// Lengths of 0 to 9,000 bytes, as far as one section more than the limit.
+#[test]
+fn every_length() {
+    let mut memory = Memory::new();
+    let mut random = Random::new(1);
+    let bytes = random.bytes(10_000);
+    for (piece_size, step) in [
+        (Some(1), 1),
+        (Some(16), 1),
+        (Some(1_008), 1),
+        (Some(4_079), 7),
+        (Some(4_080), 1),
+        (None, 17),
+    ] {
+        let settings = Settings {
+            limit: 255,
+            ..good_settings(&mut random)
+        };
+        let most = 255 * piece_size.unwrap_or(4_080);
+        for length in (0..=9_000.min(most + 1)).step_by(step) {
+            let call = Call {
+                settings,
+                flag: (length % 3) as u8,
+                piece_size,
+                unit: &bytes[length % 1_000..][..length],
+            };
+            let (number, _) = memory.around(&call);
+            let expected = if length <= most { 0 } else { 52 };
+            assert_eq!(number, expected, "{length} bytes");
+        }
+    }
+}
+
+/// The longest units, at limits that they just fit and just do not.
+#[test]
+fn the_longest_units() {
+    let mut memory = Memory::new();
+    let bytes = Random::new(2).bytes(65_540);
+    for (piece_size, limit, length, number) in [
+        (Some(4_080), 17, 65_535, 0),
+        (Some(4_080), 16, 65_535, 52),
+        (None, 16, 65_280, 0),
+        (None, 16, 65_281, 52),
+        (None, 255, 65_535, 0),
+        (None, 255, 65_536, 51),
+        (Some(257), 255, 65_535, 0),
+        (Some(257), 254, 65_535, 52),
+        (Some(256), 255, 65_535, 52),
+        (Some(256), 255, 65_280, 0),
+        (Some(1), 255, 65_535, 52),
+    ] {
+        let call = Call {
+            settings: Settings {
+                address: OURS,
+                range: 1,
+                limit,
+            },
+            flag: 0xFF,
+            piece_size,
+            unit: &bytes[..length],
+        };
+        assert_eq!(memory.around(&call).0, number, "{length} by {piece_size:?}");
+    }
+}
+
+/// The refusals of the sender, in their order.
+const REFUSALS: [u8; 5] = [10, 50, 51, 52, 53];
+
+/// A call to which the refusals of `faults` apply, and no others, and the output buffer's length.
+fn faulty_call<'a>(random: &mut Random, bytes: &'a [u8], faults: &[u8]) -> (Call<'a>, usize) {
+    let piece_size = if faults.contains(&50) {
+        random.pick(&[0, 4_081, 4_096, 65_537, 1 << 32 | 16, usize::MAX])
+    } else {
+        random.between(300, 4_080)
+    };
+    let length = if faults.contains(&51) {
+        random.between(65_536, 70_000)
+    } else {
+        random.between(4_081, 9_000)
+    };
+    let limit = if faults.contains(&52) {
+        random.between(1, (length - 1) / 4_080)
+    } else {
+        255
+    };
+    let output_length = if faults.contains(&53) {
+        random.below(length + 32)
+    } else {
+        length + 16 * 255
+    };
+    let settings = if faults.contains(&10) {
+        bad_settings(random)
+    } else {
+        Settings {
+            limit,
+            ..good_settings(random)
+        }
+    };
+    let call = Call {
+        settings,
+        flag: random.byte(),
+        piece_size: Some(piece_size),
+        unit: &bytes[..length],
+    };
+    (call, output_length)
+}
+
+/// The first refusal in the papers' order is answered, and nothing written.
+#[test]
+fn every_set_of_faults() {
+    let mut memory = Memory::new();
+    let mut random = Random::new(3);
+    let bytes = random.bytes(70_000);
+    for faults in subsets(&REFUSALS) {
+        for _ in 0..20 {
+            let (call, output_length) = faulty_call(&mut random, &bytes, &faults);
+            let (answer, output) = call.second(output_length);
+            let first = faults.first().copied().unwrap_or(0);
+            assert_eq!(answer.0, first, "{faults:?}");
+            memory.expect(&call, answer, &output);
+        }
+    }
+}
+
+#[test]
+fn what_the_wrapper_sends_the_wrapper_receives() {
+    let mut random = Random::new(4);
+    let bytes = random.bytes(65_535);
+    for turn in 0..600 {
+        let settings = settings(&good_settings(&mut random));
+        let piece_size = match random.below(4) {
+            0 => None,
+            1 => Some(random.between(1, 4_080)),
+            _ => Some(random.between(1, 60)),
+        };
+        let longest = settings.limit * piece_size.unwrap_or(4_080);
+        let unit = &bytes[..random.between(0, longest.min(65_535))];
+        let mut output = vec![0; unit.len() + 16 * settings.limit];
+        let sent = fossknut::send(&settings, turn % 2 == 0, piece_size, unit, &mut output);
+        let length = sent.expect("a unit of as many sections as the limit allows");
+        let mut receiver = fossknut::Receiver::new(settings, vec![0; unit.len()]);
+        let mut delivered = false;
+        for (_, section) in offers(&output[..length]) {
+            assert!(!delivered, "a section behind the last");
+            match receiver.receive(section) {
+                Answer::Stored => {}
+                answer => {
+                    assert_eq!(answer, Answer::Delivered(unit));
+                    delivered = true;
+                }
+            }
+        }
+        assert!(delivered);
+    }
+}
+
+#[test]
+fn the_wrapper_refuses_by_name() {
+    let ours = fossknut::Settings {
+        address: OURS,
+        range: 6,
+        limit: 1,
+    };
+    let mut output = [0; 16];
+    let mut send =
+        |piece_size, unit: &[u8]| fossknut::send(&ours, false, piece_size, unit, &mut output);
+    assert_eq!(send(None, &[]), Ok(16));
+    assert_eq!(send(Some(0), &[]), Err(Refusal::PieceSize));
+    assert_eq!(send(None, &[0; 65_536]), Err(Refusal::Unit));
+    assert_eq!(send(Some(1), &[0; 2]), Err(Refusal::Sections));
+    assert_eq!(send(None, &[0]), Err(Refusal::Output));
+    let none = fossknut::Settings { limit: 0, ..ours };
+    assert_eq!(
+        fossknut::send(&none, false, None, &[], &mut []),
+        Err(Refusal::Settings)
+    );
+}

@@ -1,0 +1,217 @@
+//! Recordings for the programs, the same in every run.
+
+use super::notifications::{any_notification, filler, with_loops};
+use super::rows::{any_run, disturbed_runs};
+use super::{any_sound, faulty, seal, set_section_length, sound, with_byte, OURS};
+use crate::listing::SETTINGS;
+use crate::random::Random;
+use crate::recording::{offers, LISTING_OF_01};
+use crate::sender::send;
+
+/// Their names. Beside these there is `cut-N`, a recording that stops at any of its bytes, N, and
+/// `bytes-N`, that many bytes.
+pub const NAMES: [&str; 12] = [
+    "empty",
+    "papers",
+    "every-answer",
+    "clean",
+    "damaged",
+    "lengths-lying",
+    "garbage",
+    "other-tables",
+    "sixteen-sections",
+    "longest-offers",
+    "night",
+    "megabytes",
+];
+
+/// How long the recording is that `cut-N` cuts.
+pub fn uncut_length() -> usize {
+    uncut().len()
+}
+
+/// The recording that has this name.
+pub fn named(name: &str) -> Option<Vec<u8>> {
+    let seed = name
+        .bytes()
+        .fold(0, |seed, byte| seed << 5 ^ u64::from(byte));
+    let random = &mut Random::new(seed);
+    if let Some(length) = number_behind(name, "cut-") {
+        return uncut().get(..length).map(<[u8]>::to_vec);
+    }
+    if let Some(length) = number_behind(name, "bytes-") {
+        return Some(random.bytes(length));
+    }
+    Some(match name {
+        "empty" => Vec::new(),
+        "papers" => LISTING_OF_01.to_vec(),
+        "every-answer" => every_answer(),
+        "clean" => clean(random, 300),
+        "damaged" => damaged(random),
+        "lengths-lying" => lengths_lying(random),
+        "garbage" => random.bytes(300_000),
+        "other-tables" => other_tables(random),
+        "sixteen-sections" => sixteen_sections(random),
+        "longest-offers" => longest_offers(random),
+        "night" => night(random, 2_000),
+        "megabytes" => [clean(random, 3_000), night(random, 10_000)].concat(),
+        _ => return None,
+    })
+}
+
+fn number_behind(name: &str, prefix: &str) -> Option<usize> {
+    name.strip_prefix(prefix)?.parse().ok()
+}
+
+/// A unit in two sections, with one for another address and one that is too short between them.
+fn uncut() -> Vec<u8> {
+    [
+        &sound(OURS, 0, 1, b"Foss")[..],
+        &sound([0; 6], 0, 0, b"others")[..],
+        &sound(OURS, 1, 1, b"knut"),
+        &[0x3E, 0xB0, 0x05, 0x30, 0x20, 0xC1, 0x00, 0x00],
+    ]
+    .concat()
+}
+
+/// Sections on which a listing answers 0, 1, 2 and 12 to 22, in another order.
+fn every_answer() -> Vec<u8> {
+    let alone = sound(OURS, 0, 0, b"knut");
+    let mut crc_32_wrong = alone.clone();
+    crc_32_wrong[19] ^= 0x80;
+    [
+        &alone[..],
+        &sound(OURS, 0, 15, b"Foss"),
+        &with_byte(&sound([0; 6], 0, 255, b"others"), 5, 0xF1),
+        &sound(OURS, 1, 15, b"knut"),
+        &sound(OURS, 3, 15, b"22"),
+        &with_byte(&alone, 0, 0x4C),
+        &with_byte(&alone, 1, 0xF0),
+        &crc_32_wrong,
+        &with_byte(&alone, 5, 0xC0),
+        &with_byte(&alone, 6, 1),
+        &with_byte(&alone, 5, 0xC5),
+        &with_byte(&alone, 5, 0xD1),
+        &sound(OURS, 0, 16, b"21"),
+        &[0x3E, 0xB0, 0x05, 0x30, 0x20, 0xC1, 0x00, 0x00],
+        &alone[..19],
+    ]
+    .concat()
+}
+
+/// Units of many lengths as our sender cuts them, some with others' sections between.
+fn clean(random: &mut Random, units: usize) -> Vec<u8> {
+    let mut recording = Vec::new();
+    let mut sections = vec![0; 70_000];
+    for _ in 0..units {
+        let piece_size = random.pick(&[4_080, 4_079, 1_008, 100, 16]);
+        let pieces = random.pick(&[1, 1, 1, 2, 16]);
+        let length = random.between(0, piece_size * pieces);
+        let unit = random.bytes(length);
+        let answer = send(
+            &SETTINGS,
+            random.one_in(2),
+            Some(piece_size),
+            &unit,
+            &mut sections,
+        );
+        recording.extend(&sections[..answer.length]);
+        if random.one_in(3) {
+            recording.extend(any_sound(random));
+        }
+    }
+    recording
+}
+
+/// The same with a bit of some sections received wrong, and at the end also of those bits that say
+/// where the next section is.
+fn damaged(random: &mut Random) -> Vec<u8> {
+    let mut recording = clean(random, 300);
+    let sections: Vec<_> = offers(&recording)
+        .map(|(offset, section)| (offset, section.len()))
+        .collect();
+    let lost = sections.len() * 9 / 10;
+    for (number, (offset, length)) in sections.into_iter().enumerate() {
+        if random.one_in(10) {
+            let first = if number < lost { 3 } else { 0 };
+            let place = offset + random.between(first, length - 1);
+            recording[place] ^= 1 << random.below(8);
+        }
+    }
+    recording
+}
+
+/// Sections that are longer or shorter than they were, as their section_length says, and at the end
+/// some whose section_length is off.
+fn lengths_lying(random: &mut Random) -> Vec<u8> {
+    let mut recording = Vec::new();
+    for _ in 0..1_000 {
+        let mut section = any_run(random, &SETTINGS).swap_remove(0);
+        if random.one_in(3) {
+            let length = random.pick(&[3, 15, 16, 17, section.len() + 1, 4_096, 4_097, 4_098]);
+            section.resize(length, 0);
+            set_section_length(&mut section, length - 3);
+        }
+        recording.extend(section);
+    }
+    for _ in 0..50 {
+        let mut section = any_sound(random);
+        let lie = section.len() + random.pick(&[0, 1, 300, 4_090, 4_091]);
+        set_section_length(&mut section, lie);
+        seal(&mut section);
+        recording.extend(section);
+    }
+    recording
+}
+
+/// Program association and INT sections, and datagram sections with other table_ids, between ours.
+fn other_tables(random: &mut Random) -> Vec<u8> {
+    let mut recording = Vec::new();
+    for _ in 0..1_000 {
+        let section = match random.below(5) {
+            0 => b"\x00\xB0\x0D\x00\x01\xC1\x00\x00\x00\x01\xF0\x00\x2A\xB1\x04\xB2".to_vec(),
+            1 => any_notification(random).1,
+            2 => faulty(random, &[13]),
+            _ => any_run(random, &SETTINGS).concat(),
+        };
+        recording.extend(section);
+    }
+    recording
+}
+
+/// Units of 15, 16 and 17 sections, and the longest.
+fn sixteen_sections(random: &mut Random) -> Vec<u8> {
+    let mut recording = Vec::new();
+    for _ in 0..30 {
+        let last = random.pick(&[14, 15, 15, 15, 16]);
+        let payload_length = random.pick(&[0, 10, 4_080]);
+        for number in 0..=last {
+            let payload = random.bytes(payload_length);
+            recording.extend(sound(OURS, number, last, &payload));
+        }
+    }
+    recording
+}
+
+/// Offers of 4,096, 4,097 and 4,098 bytes, of any table, and an end inside one.
+fn longest_offers(random: &mut Random) -> Vec<u8> {
+    let mut recording = Vec::new();
+    for _ in 0..60 {
+        let payload_length = random.between(4_078, 4_082);
+        let offer = match random.below(3) {
+            0 => sound(OURS, 0, 0, &random.bytes(payload_length)),
+            1 => with_loops(&[filler(random, payload_length - 2)]),
+            _ => [&[0xFF; 3][..], &random.bytes(4_095)].concat(),
+        };
+        recording.extend(offer);
+    }
+    recording.extend([0xFF; 4_097]);
+    recording
+}
+
+/// Runs with sections lost, doubled, swapped, damaged, and of others.
+fn night(random: &mut Random, rows: usize) -> Vec<u8> {
+    (0..rows)
+        .flat_map(|_| disturbed_runs(random, &SETTINGS).concat())
+        .collect()
+}
