@@ -27,24 +27,32 @@ use Rattle.notification.specs.Readers.{loopAt, Turns, pairsFrom, pairAt,
 use Rattle.notification.proofs.Pairs.{cut-here, length-loopAt}
 
 -- ---- a refusal, and nobody
-empty : (device : Address) (s r : RefT (List ℕ)) (n : ℕ) (x : Notice) → noticeOf device (now s) ≡ x → n ≡ numberOf x → part 0 [] ≡ partOf (now s) x
+empty : (device : Address) (s r : RefT (List ℕ)) (n : ℕ) (x : Notice) → noticeOf device (now s) ≡ x → n ≡ numberOf x
+    → part 0 [] ≡ partOf (now s) x
     → now r ≡ [] → r .ptr ≡ s .ptr → Answered device s n r
 empty device s r n x e en ep b p =
     record {
       number = rw e en;
-      part = rw (e, ← ep) (record { bytes = b; block = ap (λ (q : ℕ × ℕ). q .0) p; place = ap (λ (q : ℕ × ℕ). q .1) p ∙ zero-more (s .ptr .1) });
+      part = rw (e, ← ep) (record {
+        bytes = b;
+        block = ap (λ (q : ℕ × ℕ). q .0) p;
+        place = ap (λ (q : ℕ × ℕ). q .1) p
+            ∙ zero-more (s .ptr .1);
+      });
     }
   where
     zero-more : (n : ℕ) → n ≡ 0 + n
     zero-more n = omega arith
 
-pub answered-refused : (device : Address) (s r : RefT (List ℕ)) (n : ℕ) → n ≡ refusal (now s) → (n ≡ 0 → ⊥) → now r ≡ [] → r .ptr ≡ s .ptr
+pub answered-refused : (device : Address) (s r : RefT (List ℕ)) (n : ℕ) → n ≡ refusal (now s) → (n ≡ 0 → ⊥) → now r ≡ []
+    → r .ptr ≡ s .ptr
     → Answered device s n r
 unfolding noticeOf pick
 answered-refused device s r n e z b p =
     empty device s r n (Refused (refusal (now s))) (rw (ne-eqb (refusal (now s)) 0 (λ q. z (e ∙ q)))) e refl b p
 
-pub answered-nobody : (device : Address) (s r : RefT (List ℕ)) → noticeOf device (now s) ≡ Nobody → now r ≡ [] → r .ptr ≡ s .ptr → Answered device s 4 r
+pub answered-nobody : (device : Address) (s r : RefT (List ℕ)) → noticeOf device (now s) ≡ Nobody → now r ≡ [] → r .ptr ≡ s .ptr
+    → Answered device s 4 r
 answered-nobody device s r e b p = empty device s r 4 Nobody e refl refl b p
 
 -- ---- the loops of a section that is not refused, with h what stands before its CRC_32
@@ -71,7 +79,8 @@ unfolding descriptorsOf
 general-is h x e = ap (λ (l : List ℕ). isLocation (located (placed 14 (descriptorPieces l)))) e
 
 pub location-is : (h x y : List ℕ) (r n : ℕ) → n ≡ r + loopSize (drop r h) → x ≡ content (loopAt h 12) → y ≡ content (loopAt h n)
-    → orElse (located (placed (n + 2) (descriptorPieces y))) (located (placed 14 (descriptorPieces x))) ≡ locationOf (part 12 (loopAt h 12)) (pairAt h r)
+    → orElse (located (placed (n + 2) (descriptorPieces y))) (located (placed 14 (descriptorPieces x)))
+    ≡ locationOf (part 12 (loopAt h 12)) (pairAt h r)
 unfolding locationOf descriptorsOf pairAt
 location-is h x y r n en ex ey = rw (ex, ey, en)
 
@@ -81,11 +90,13 @@ unfolding isLocation orElse either
 or-location nowhere b = refl
 or-location (at d) b = refl
 
-answers-same : (device : Address) (platform : Part) (general : Bool) → general ≡ isLocation (located (descriptorsOf platform)) → (x : Pair)
+answers-same : (device : Address) (platform : Part) (general : Bool) → general ≡ isLocation (located (descriptorsOf platform))
+    → (x : Pair)
     → answersBy device general x ≡ answers device platform x
 unfolding answers answersBy locationOf
 answers-same device platform general e x =
-    rw e (ap (both (isCover (coverOf device (x .target)))) (or-location (located (descriptorsOf (x .operational))) (located (descriptorsOf platform))))
+    rw e (ap (both (isCover (coverOf device (x .target))))
+    (or-location (located (descriptorsOf (x .operational))) (located (descriptorsOf platform))))
 
 module _ (device : Address) (s h : List ℕ) (eh : h ≡ checked s) (z : refusal s ≡ 0) where
   cut-is : loopCut s ≡ cutOf loopSize (drop 12 h)
@@ -112,7 +123,8 @@ module _ (device : Address) (s h : List ℕ) (eh : h ≡ checked s) (z : refusal
     unfolding fits odd
     pairs-turns =
         let w = platform-whole in
-        let b = both-parts (isNil (cutOf loopSize (drop n h) .left)) (not (odd (cutOf loopSize (drop n h) .pieces))) _ (ap fits (sym platform-cut) ∙ fill) in
+        let b = both-parts (isNil (cutOf loopSize (drop n h) .left)) (not (odd (cutOf loopSize (drop n h) .pieces))) _
+        (ap fits (sym platform-cut) ∙ fill) in
         record { inside = omega arith; full = b .0; even = not-yes (odd (cutOf loopSize (drop n h) .pieces)) (b .1) }
       where
         not-yes : (b : Bool) → not b ≡ true → b ≡ false
@@ -129,9 +141,11 @@ module _ (device : Address) (s h : List ℕ) (eh : h ≡ checked s) (z : refusal
     abbrev platform : Part
     platform = part 12 (loopAt h 12)
 
-    module _ (general : Bool) (eg : general ≡ isLocation (located (descriptorsOf platform))) (r : ℕ) (c : Chosen device general h n r) where
+    module _ (general : Bool) (eg : general ≡ isLocation (located (descriptorsOf platform))) (r : ℕ)
+        (c : Chosen device general h n r) where
       choice-same : choiceAt h r ≡ firstPair (answers device platform) (pairsFrom h n)
-      choice-same = c .first ∙ ap (λ (f : Pair → Bool). firstPair f (pairsFrom h n)) (fun-ext (answers-same device platform general eg))
+      choice-same = c .first ∙ ap (λ (f : Pair → Bool). firstPair f (pairsFrom h n))
+          (fun-ext (answers-same device platform general eg))
 
       notice-is : noticeOf device s ≡ chosen platform (choiceAt h r)
       unfolding searched pairsFrom
@@ -160,20 +174,24 @@ module _ (device : Address) (s h : List ℕ) (eh : h ≡ checked s) (z : refusal
         unfolding pairsFrom
         operational-is =
             let f = first-is (answers device platform) (pairsFrom h n) (pairAt h r) (sym choice-same ∙ choice-is) in
-            rw loops-are (List·Memᴰ·tail (operational-one (placed n (cutOf loopSize (drop n h) .pieces)) (pairAt h r) (rw (f .split) (split-one (f .earlier) (f .later) (pairAt h r)))))
+            rw loops-are (List·Memᴰ·tail (operational-one (placed n (cutOf loopSize (drop n h) .pieces)) (pairAt h r)
+            (rw (f .split) (split-one (f .earlier) (f .later) (pairAt h r)))))
 
         platform-is : List·Memᴰ platform (loopsOf s)
         platform-is = rw loops-are (List·Memᴰ·head refl)
 
         -- the nine bytes
-        nine : (x d : Part) → List·Memᴰ x (loopsOf s) → located (descriptorsOf x) ≡ at d → drop 2 (d .bytes) ≡ take 9 (drop (d .place + 2) s)
+        nine : (x d : Part) → List·Memᴰ x (loopsOf s) → located (descriptorsOf x) ≡ at d
+            → drop 2 (d .bytes) ≡ take 9 (drop (d .place + 2) s)
         nine x d m e =
             let b = nine-in s x d (sound s z) m e in
             let w = b .whole in
             let k : 2 ≤ length (d .bytes) = omega (arith, w) in
-            sym (stands-bytes s (part (d .place + 2) (drop 2 (d .bytes))) 9 (length-drop 2 (d .bytes) ∙ omega (arith, w)) (stands-behind s d 2 k (b .stands)))
+            sym (stands-bytes s (part (d .place + 2) (drop 2 (d .bytes))) 9 (length-drop 2 (d .bytes) ∙ omega (arith, w))
+            (stands-behind s d 2 k (b .stands)))
 
-        nine-of : (a b : Location) → a ≡ located (descriptorsOf (pairAt h r .operational)) → b ≡ located (descriptorsOf platform) → (d : Part) → orElse a b ≡ at d
+        nine-of : (a b : Location) → a ≡ located (descriptorsOf (pairAt h r .operational))
+            → b ≡ located (descriptorsOf platform) → (d : Part) → orElse a b ≡ at d
             → drop 2 (d .bytes) ≡ take 9 (drop (d .place + 2) s)
         unfolding orElse
         nine-of nowhere b ea eb d e = nine platform d platform-is (sym eb ∙ e)

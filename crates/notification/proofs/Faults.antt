@@ -48,7 +48,8 @@ fault-end s other h =
     let l : length s < descriptorSize s = omega (arith, descriptor-two s) in
     rw (filled-stop s l, nil-true s h, known-stop s l, either-false other)
 
-pub fault-stop : (s : List ℕ) (other : Bool) (n : ℕ) → n ≡ descriptorSize s → (length s ≡ 0 → ⊥) → length s < n → 32 ≡ descriptorFault s other
+pub fault-stop : (s : List ℕ) (other : Bool) (n : ℕ) → n ≡ descriptorSize s → (length s ≡ 0 → ⊥) → length s < n
+    → 32 ≡ descriptorFault s other
 unfolding descriptorFault first
 fault-stop s other n e g h =
     let l : length s < descriptorSize s = omega arith in
@@ -63,7 +64,8 @@ fault-more s other m n f h e =
     rw (from, f, e, filled-more s l, known-more s l, either-not)
 
 -- ---- loops by turns
-turn-step : (t n o f e : Bool) → both n (both (pick t (not o) (not (not o))) (both f e)) ≡ both f (both n (both (pick (not t) o (not o)) e))
+turn-step : (t n o f e : Bool) → both n (both (pick t (not o) (not (not o))) (both f e))
+    ≡ both f (both n (both (pick (not t) o (not o)) e))
 unfolding both pick
 turn-step true n true true e = refl
 turn-step true n false true e = refl
@@ -98,7 +100,8 @@ loops-end s other h =
     let l : length s < loopSize s = omega (arith, loop-two s) in
     rw (loops-stop s l, fit-even s, nil-true s h, either-false other)
 
-pub loops-short : (s : List ℕ) (other : Bool) (n : ℕ) → n ≡ loopSize s → (length s ≡ 0 → ⊥) → length s < n → 32 ≡ loopFault false s other
+pub loops-short : (s : List ℕ) (other : Bool) (n : ℕ) → n ≡ loopSize s → (length s ≡ 0 → ⊥) → length s < n
+    → 32 ≡ loopFault false s other
 unfolding loopFault first every
 loops-short s other n e g h =
     let l : length s < loopSize s = omega arith in
@@ -131,7 +134,8 @@ module _ (t : Bool) (s : List ℕ) (other : Bool) (n r : ℕ) (f : n ≡ loopSiz
     (e : r ≡ descriptorFault (take (n - 2) (drop 2 s)) other) where
   step : loopFault t s other
       ≡ first (not (both (filled (content (take n s))) (fitsBy (not t) (cutOf loopSize (drop n s))))) 32
-      (first (either other (not (both (known (content (take n s))) (every (λ l. known (content l)) (cutOf loopSize (drop n s) .pieces))))) 33 0)
+      (first (either other (not (both (known (content (take n s)))
+      (every (λ l. known (content l)) (cutOf loopSize (drop n s) .pieces))))) 33 0)
   unfolding loopFault every
   step = let l : loopSize s ≤ length s = omega arith in rw (f, loops-more s l, fit-more)
 

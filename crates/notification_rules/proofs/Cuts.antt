@@ -76,11 +76,13 @@ module _ (size : Size) where
   run-fuel (suc j) (suc k) s h g = go (whole size s) refl (run-fuel j k (drop (size s) s))
     where
       go : (b : Bool) → whole size s ≡ b
-          → (length (drop (size s) s) ≤ j → length (drop (size s) s) ≤ k → run size j (drop (size s) s) ≡ run size k (drop (size s) s))
+          → (length (drop (size s) s) ≤ j → length (drop (size s) s) ≤ k
+          → run size j (drop (size s) s) ≡ run size k (drop (size s) s))
           → run size (suc j) s ≡ run size (suc k) s
       go true e ih =
           run-more j s e
-          ∙ ap (more (take (size s) s)) (ih (simp length-drop (omega (arith, whole-true s e))) (simp length-drop (omega (arith, whole-true s e))))
+          ∙ ap (more (take (size s) s)) (ih (simp length-drop (omega (arith, whole-true s e)))
+          (simp length-drop (omega (arith, whole-true s e))))
           ∙ sym (run-more k s e)
       go false e ih = run-stop (suc j) s e ∙ sym (run-stop (suc k) s e)
 
