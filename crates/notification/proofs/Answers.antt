@@ -7,7 +7,7 @@ use mathlib.Core.Bool.{Bool, true, false, not}
 use mathlib.Core.List.{List, [], _∷_, List·Memᴰ, List·Memᴰ·head, List·Memᴰ·tail}
 use lib.ListN.{length, take, drop, length-drop}
 use lib.Dec.{eqb, ltb}
-use borrow.Author.Tests.{lt-ltb, le-ltb, ne-eqb}
+use borrow.Author.Tests.{lt-ltb, le-ltb, ne-eqb, not-true}
 use denote.Ref.{RefT, now}
 use Rattle.wire.specs.Choice.{pick, both, either}
 use Rattle.wire.proofs.Choice.{never}
@@ -18,6 +18,7 @@ use Rattle.notification_rules.specs.Cut.{Cut, cutOf, stop, more, isNil, odd, Pa
 use Rattle.notification_rules.specs.Loop.{loopSize, checked, loopCut, loopsOf, content, descriptorPieces, descriptorsOf, Pair}
 use Rattle.notification_rules.specs.Target.{isCover, coverOf, Location, nowhere, at, located, isLocation, orElse, locationOf, answers, one, firstPair}
 use Rattle.notification_rules.specs.Notice.{refusal, fits, found, chosen, searched, noticeOf, numberOf, partOf, Answered}
+use Rattle.notification_rules.proofs.Cuts.{both-yes}
 use Rattle.notification_rules.proofs.Pieces.{loop-two, loops-stop}
 use Rattle.notification_rules.proofs.Parts.{stands-behind, stands-bytes}
 use Rattle.notification_rules.proofs.Sound.{sound}
@@ -56,21 +57,10 @@ pub answered-nobody : (device : Address) (s r : RefT (List ℕ)) → noticeOf de
 answered-nobody device s r e b p = empty device s r 4 Nobody e refl refl b p
 
 -- ---- the loops of a section that is not refused, with h what stands before its CRC_32
-both-parts : (a b c : Bool) → both a (both b c) ≡ true → (a ≡ true) × (b ≡ true)
-unfolding both
-both-parts true true c e = (refl, refl)
-both-parts true false c e = absurd (never e)
-both-parts false b c e = absurd (never e)
-
 fits-stop : (s : List ℕ) → fits (stop s) ≡ false
 unfolding fits odd both
 fits-stop [] = refl
 fits-stop (x ∷ s) = refl
-
-second-true : (t u : Bool) → both t u ≡ true → u ≡ true
-unfolding both
-second-true true u e = e
-second-true false u e = absurd (never e)
 
 -- with what the code has read: x of the platform loop, y of the operational loop at n
 pub general-is : (h x : List ℕ) → x ≡ content (loopAt h 12)
@@ -123,13 +113,9 @@ module _ (device : Address) (s h : List ℕ) (eh : h ≡ checked s) (z : refusal
     unfolding fits odd
     pairs-turns =
         let w = platform-whole in
-        let b = both-parts (isNil (cutOf loopSize (drop n h) .left)) (not (odd (cutOf loopSize (drop n h) .pieces))) _
-        (ap fits (sym platform-cut) ∙ fill) in
-        record { inside = omega arith; full = b .0; even = not-yes (odd (cutOf loopSize (drop n h) .pieces)) (b .1) }
-      where
-        not-yes : (b : Bool) → not b ≡ true → b ≡ false
-        not-yes true e = absurd (never e)
-        not-yes false e = refl
+        let b = both-yes (isNil (cutOf loopSize (drop n h) .left)) _ (ap fits (sym platform-cut) ∙ fill) in
+        let o = both-yes (not (odd (cutOf loopSize (drop n h) .pieces))) _ (b .1) in
+        record { inside = omega arith; full = b .0; even = not-true (odd (cutOf loopSize (drop n h) .pieces)) (o .0) }
 
     loops-are : loopsOf s ≡ part 12 (loopAt h 12) ∷ placed n (cutOf loopSize (drop n h) .pieces)
     unfolding loopsOf placed
@@ -168,7 +154,7 @@ module _ (device : Address) (s h : List ℕ) (eh : h ≡ checked s) (z : refusal
         unfolding answers
         has-location =
             let f = first-is (answers device platform) (pairsFrom h n) (pairAt h r) (sym choice-same ∙ choice-is) in
-            second-true _ _ (f .passes)
+            both-yes _ _ (f .passes) .1
 
         operational-is : List·Memᴰ (pairAt h r .operational) (loopsOf s)
         unfolding pairsFrom

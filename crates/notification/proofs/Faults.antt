@@ -8,12 +8,12 @@ use lib.Dec.{eqb}
 use borrow.Author.Tests.{eq-eqb, ne-eqb}
 use native.Mathlib.Nat.{pos-of-ne-zero}
 use native.Mathlib.Omega.{arith}
-use Rattle.wire.specs.Choice.{pick, both, either, first}
+use Rattle.wire.specs.Choice.{pick, both, either, first, firstOf}
 use Rattle.wire.specs.Bytes.{byteAt}
 use Rattle.notification_rules.specs.Cut.{Cut, stop, more, cutOf, isNil, every, odd}
-use Rattle.notification_rules.specs.Loop.{loopSize, descriptorSize, content, filled}
+use Rattle.notification_rules.specs.Loop.{loopSize, descriptorSize, checked, loopCut, content, filled}
 use Rattle.notification_rules.specs.Target.{rightLength}
-use Rattle.notification_rules.specs.Notice.{known}
+use Rattle.notification_rules.specs.Notice.{known, loopLines, misfit, otherLength, fits}
 use Rattle.notification_rules.proofs.Cuts.{from, nil-true, nil-false}
 use Rattle.notification_rules.proofs.Pieces.{descriptor-two, loop-two, filled-stop, filled-more, known-stop, known-more, loops-stop, loops-more}
 use Rattle.notification.specs.Readers.{descriptorFault, fitsBy, loopFault}
@@ -149,3 +149,8 @@ module _ (t : Bool) (s : List ℕ) (other : Bool) (n r : ℕ) (f : n ≡ loopSiz
   pub loops-on : (r ≡ 32 → ⊥) → loopFault (not t) (take (length s - n) (drop n s)) (eqb r 33) ≡ loopFault t s other
   unfolding loopFault
   loops-on z = rw from (more-step _ _ other _ _ r here z ∙ sym step)
+
+-- what the readers of the loops tell is the table's last two lines
+pub loops-told : (s : List ℕ) → loopFault true (drop 12 (checked s)) false ≡ firstOf (loopLines s)
+unfolding loopFault firstOf loopLines misfit otherLength loopCut either fits fitsBy pick
+loops-told s = refl

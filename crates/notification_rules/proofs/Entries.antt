@@ -9,7 +9,7 @@ use lib.Seq.{drop-at}
 use lib.Bits.{bitAnd}
 use lib.Dec.{eqb, leb}
 use borrow.Author.Tests.{eq-eqb, le-leb}
-use Rattle.wire.specs.Bytes.{byteAt, numberAt}
+use Rattle.wire.specs.Bytes.{numberAt}
 use Rattle.wire.specs.Choice.{pick, both}
 use Rattle.rules.specs.declared.Address.{Address}
 use Rattle.notification_rules.specs.Cut.{Cut, cutOf, any}

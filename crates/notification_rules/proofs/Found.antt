@@ -15,6 +15,7 @@ use Rattle.notification_rules.specs.Cut.{isNil, Part}
 use Rattle.notification_rules.specs.Loop.{loopsOf, content, tag, descriptorsOf, Pair, pairsOf}
 use Rattle.notification_rules.specs.Target.{streamLocation, covers, by, coverFrom, Location, nowhere, at, located, isLocation, orElse, locationOf, isCover, coverOf, answers, Choice, none, one, firstPair}
 use Rattle.notification_rules.specs.Notice.{refusal, found, chosen, searched, noticeOf}
+use Rattle.notification_rules.proofs.Cuts.{both-yes}
 use Rattle.notification_rules.specs.Right.{Covering, NoLocation, FirstLocation, FirstAnswer, FoundExactly}
 
 -- ---- the first that passes a test
@@ -215,11 +216,6 @@ covering-cover device t (inr r) = go (isNil (content (t .bytes))) (one-covers de
     go false h = h
 
 -- ---- the test
-both-yes : (t u : Bool) → both t u ≡ true → (t ≡ true) × (u ≡ true)
-unfolding both
-both-yes true u h = (refl, h)
-both-yes false u h = absurd (never h)
-
 no-place : (t : Bool) (l : Location) → both t (isLocation l) ≡ false → t ≡ true → l ≡ nowhere
 unfolding both isLocation
 no-place t nowhere h e = refl

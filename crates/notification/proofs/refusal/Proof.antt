@@ -1,5 +1,6 @@
 -- The table is decided in parts: 12 to 18, then 30 and 31, then 32 and 33, which the readers of the loops give.
-use Rattle.notification.proofs.Refusals.{platform-numbered, loops-told}
+use Rattle.notification_rules.proofs.Sound.{platform-numbered}
+use Rattle.notification.proofs.Faults.{loops-told}
 use Rattle.notification.specs.Readers.{loopFault}
 use Rattle.notification_rules.specs.Notice.{notificationForm, platformLines, refusal}
 use Rattle.rules.proofs.Check.{fault-numbered}
