@@ -1,4 +1,4 @@
--- Outside: whole pairs stand from here on, and the first that answers is the same as from the start. Inside: what is left of a target loop, or of a descriptor, covers the device as the whole of it does.
+-- The first pair that answers is the same from here as from the start; what is left of a loop or a descriptor covers as all of it does.
 use Rattle.notification.proofs.Pairs.{first-whole, second-whole, next-turns, skips, hits, ends, located-test, answers-empty, answers-some, answers-nowhere, no-descriptor, descriptor-hit, descriptor-miss, no-entry, entry-hit, entry-miss, covers-by}
 use Rattle.notification.specs.Readers.{Turns, pairsFrom, pairAt, answersBy}
 use Rattle.notification_rules.proofs.Pieces.{descriptor-two, entry-some}
