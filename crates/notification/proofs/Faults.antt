@@ -8,12 +8,12 @@ use lib.Dec.{eqb}
 use borrow.Author.Tests.{eq-eqb, ne-eqb}
 use native.Mathlib.Nat.{pos-of-ne-zero}
 use native.Mathlib.Omega.{arith}
-use Rattle.wire.specs.Choice.{pick, both, either, first}
+use Rattle.wire.specs.Choice.{pick, both, either, first, firstOf}
 use Rattle.wire.specs.Bytes.{byteAt}
 use Rattle.notification_rules.specs.Cut.{Cut, stop, more, cutOf, isNil, every, odd}
-use Rattle.notification_rules.specs.Loop.{loopSize, descriptorSize, content, filled}
+use Rattle.notification_rules.specs.Loop.{loopSize, descriptorSize, checked, loopCut, content, filled}
 use Rattle.notification_rules.specs.Target.{rightLength}
-use Rattle.notification_rules.specs.Notice.{known}
+use Rattle.notification_rules.specs.Notice.{known, loopLines, misfit, otherLength, fits}
 use Rattle.notification_rules.proofs.Cuts.{from, nil-true, nil-false}
 use Rattle.notification_rules.proofs.Pieces.{descriptor-two, loop-two, filled-stop, filled-more, known-stop, known-more, loops-stop, loops-more}
 use Rattle.notification.specs.Readers.{descriptorFault, fitsBy, loopFault}
@@ -48,7 +48,8 @@ fault-end s other h =
     let l : length s < descriptorSize s = omega (arith, descriptor-two s) in
     rw (filled-stop s l, nil-true s h, known-stop s l, either-false other)
 
-pub fault-stop : (s : List ℕ) (other : Bool) (n : ℕ) → n ≡ descriptorSize s → (length s ≡ 0 → ⊥) → length s < n → 32 ≡ descriptorFault s other
+pub fault-stop : (s : List ℕ) (other : Bool) (n : ℕ) → n ≡ descriptorSize s → (length s ≡ 0 → ⊥) → length s < n
+    → 32 ≡ descriptorFault s other
 unfolding descriptorFault first
 fault-stop s other n e g h =
     let l : length s < descriptorSize s = omega arith in
@@ -63,7 +64,8 @@ fault-more s other m n f h e =
     rw (from, f, e, filled-more s l, known-more s l, either-not)
 
 -- ---- loops by turns
-turn-step : (t n o f e : Bool) → both n (both (pick t (not o) (not (not o))) (both f e)) ≡ both f (both n (both (pick (not t) o (not o)) e))
+turn-step : (t n o f e : Bool) → both n (both (pick t (not o) (not (not o))) (both f e))
+    ≡ both f (both n (both (pick (not t) o (not o)) e))
 unfolding both pick
 turn-step true n true true e = refl
 turn-step true n false true e = refl
@@ -98,7 +100,8 @@ loops-end s other h =
     let l : length s < loopSize s = omega (arith, loop-two s) in
     rw (loops-stop s l, fit-even s, nil-true s h, either-false other)
 
-pub loops-short : (s : List ℕ) (other : Bool) (n : ℕ) → n ≡ loopSize s → (length s ≡ 0 → ⊥) → length s < n → 32 ≡ loopFault false s other
+pub loops-short : (s : List ℕ) (other : Bool) (n : ℕ) → n ≡ loopSize s → (length s ≡ 0 → ⊥) → length s < n
+    → 32 ≡ loopFault false s other
 unfolding loopFault first every
 loops-short s other n e g h =
     let l : length s < loopSize s = omega arith in
@@ -131,7 +134,8 @@ module _ (t : Bool) (s : List ℕ) (other : Bool) (n r : ℕ) (f : n ≡ loopSiz
     (e : r ≡ descriptorFault (take (n - 2) (drop 2 s)) other) where
   step : loopFault t s other
       ≡ first (not (both (filled (content (take n s))) (fitsBy (not t) (cutOf loopSize (drop n s))))) 32
-      (first (either other (not (both (known (content (take n s))) (every (λ l. known (content l)) (cutOf loopSize (drop n s) .pieces))))) 33 0)
+      (first (either other (not (both (known (content (take n s)))
+      (every (λ l. known (content l)) (cutOf loopSize (drop n s) .pieces))))) 33 0)
   unfolding loopFault every
   step = let l : loopSize s ≤ length s = omega arith in rw (f, loops-more s l, fit-more)
 
@@ -145,3 +149,8 @@ module _ (t : Bool) (s : List ℕ) (other : Bool) (n r : ℕ) (f : n ≡ loopSiz
   pub loops-on : (r ≡ 32 → ⊥) → loopFault (not t) (take (length s - n) (drop n s)) (eqb r 33) ≡ loopFault t s other
   unfolding loopFault
   loops-on z = rw from (more-step _ _ other _ _ r here z ∙ sym step)
+
+-- what the readers of the loops tell is the table's last two lines
+pub loops-told : (s : List ℕ) → loopFault true (drop 12 (checked s)) false ≡ firstOf (loopLines s)
+unfolding loopFault firstOf loopLines misfit otherLength loopCut either fits fitsBy pick
+loops-told s = refl

@@ -3,4 +3,3 @@ pub mod Answers
 pub mod Faults
 pub mod Locations
 pub mod Pairs
-pub mod Refusals

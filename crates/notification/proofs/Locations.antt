@@ -56,7 +56,8 @@ module _ (start : ℕ × ℕ) (r b : RefT (List ℕ)) (h : Behind r 2 b) where
   picked-own nowhere l e z = absurd (z (ap length e))
   picked-own (at d) l i z = body-of d (i .0) (i .1)
 
-  pub picked-other : (a l : Location) (x : RefT (List ℕ)) → Located start a x → length (now x) ≡ 0 → Located start l r → Picked start (orElse a l) b
+  pub picked-other : (a l : Location) (x : RefT (List ℕ)) → Located start a x → length (now x) ≡ 0 → Located start l r
+      → Picked start (orElse a l) b
   unfolding orElse
   picked-other nowhere l x e z i = picked l i
   picked-other (at d) l x e z i = absurd (omega (arith, e .1))

@@ -32,7 +32,8 @@ cut-here s o i h =
 cut-none : (s : List ℕ) (o : ℕ) → o ≤ length s → length s < o + loopSize (drop o s) → cutOf loopSize (drop o s) ≡ stop (drop o s)
 cut-none s o i h = loops-stop (drop o s) (rw (length-drop o s) (omega arith))
 
-pub length-loopAt : (s : List ℕ) (o : ℕ) → o ≤ length s → o + loopSize (drop o s) ≤ length s → length (loopAt s o) ≡ loopSize (drop o s)
+pub length-loopAt : (s : List ℕ) (o : ℕ) → o ≤ length s → o + loopSize (drop o s) ≤ length s
+    → length (loopAt s o) ≡ loopSize (drop o s)
 unfolding loopAt
 length-loopAt s o i h = length-take-le (loopSize (drop o s)) (drop o s) (rw (length-drop o s) (omega arith))
 
@@ -56,7 +57,8 @@ module _ (s : List ℕ) (o : ℕ) (t : Turns s o) (l : o < length s) where
       go : Dec (o + loopSize (drop o s) ≤ length s) → o + loopSize (drop o s) ≤ length s
       go (yes h) = h
       go (no h) =
-          let e : isNil (drop o s) ≡ true = ap (λ (c : Cut). isNil (c .left)) (sym (cut-none s o (t .inside) (omega arith))) ∙ t .full in
+          let e : isNil (drop o s) ≡ true = ap (λ (c : Cut). isNil (c .left)) (sym (cut-none s o (t .inside) (omega arith)))
+          ∙ t .full in
           let z : length s - o ≡ 0 = sym (length-drop o s) ∙ nil-length (drop o s) e in
           absurd (omega arith)
 
@@ -121,7 +123,8 @@ ends s o test h g =
     rw (le-ltb o (length s) g, cut-none s o h (omega (arith, loop-two (drop o s))))
 
 -- ---- whether a pair answers, with what the code has read of it: its two loops, and whether the second has a location
-pub located-test : (start : ℕ × ℕ) (l : Location) (r : RefT (List ℕ)) → Located start l r → not (eqb (length (now r)) 0) ≡ isLocation l
+pub located-test : (start : ℕ × ℕ) (l : Location) (r : RefT (List ℕ)) → Located start l r
+    → not (eqb (length (now r)) 0) ≡ isLocation l
 unfolding isLocation
 located-test start nowhere r e = ap (λ (s : List ℕ). not (eqb (length s) 0)) e
 located-test start (at d) r i = ap not (ne-eqb (length (now r)) 0 (λ z. omega (arith, i .1, z)))
@@ -149,7 +152,8 @@ module _ (device : Address) (general : Bool) (s : List ℕ) (o n : ℕ) (e : n �
   unfolding both
   answers-empty z h = answers-by true (cover-empty z) ∙ h
 
-  pub answers-some : (length x ≡ 0 → ⊥) → b ≡ true → (k : Bool) → any (covers device) (descriptorPieces x) ≡ k → answersBy device general (pairAt s o) ≡ k
+  pub answers-some : (length x ≡ 0 → ⊥) → b ≡ true → (k : Bool) → any (covers device) (descriptorPieces x) ≡ k
+      → answersBy device general (pairAt s o) ≡ k
   unfolding both
   answers-some z h k a = answers-by k (cover-some z ∙ a) ∙ rw h (and-true k)
     where
@@ -171,7 +175,8 @@ module _ (device : Address) (s : List ℕ) (n : ℕ) (e : n ≡ descriptorSize s
   unfolding any
   no-descriptor h = ap (λ (c : Cut). any (covers device) (c .pieces)) (descriptors-stop s (omega arith))
 
-  one-descriptor : n ≤ length s → any (covers device) (descriptorPieces s) ≡ pick (covers device (take n s)) true (any (covers device) (descriptorPieces (drop n s)))
+  one-descriptor : n ≤ length s → any (covers device) (descriptorPieces s)
+      ≡ pick (covers device (take n s)) true (any (covers device) (descriptorPieces (drop n s)))
   unfolding any
   one-descriptor h = rw e (ap (λ (c : Cut). any (covers device) (c .pieces)) (descriptors-more s (omega arith)))
 
@@ -190,7 +195,8 @@ module _ (device : Address) (d a : List ℕ) (n : ℕ) (g : 0 < n) where
   unfolding any
   no-entry h = ap (λ (c : Cut). any (hit device d) (c .pieces)) (stops (λ _. n) (λ _. g) a h)
 
-  one-entry : n ≤ length a → any (hit device d) (cutOf (λ _. n) a .pieces) ≡ pick (hit device d (take n a)) true (any (hit device d) (cutOf (λ _. n) (drop n a) .pieces))
+  one-entry : n ≤ length a → any (hit device d) (cutOf (λ _. n) a .pieces)
+      ≡ pick (hit device d (take n a)) true (any (hit device d) (cutOf (λ _. n) (drop n a) .pieces))
   unfolding any
   one-entry h = ap (λ (c : Cut). any (hit device d) (c .pieces)) (goes-on (λ _. n) (λ _. g) a h)
 

@@ -19,12 +19,14 @@ descriptorFault b other = first (not (filled b)) 32 (first (either other (not (k
 
 -- loops that fill exactly; the first is a target loop where `turn` is false, so that they are even in number
 unfoldable pub fitsBy : Bool → Cut → Bool
-fitsBy turn c = both (isNil (c .left)) (both (pick turn (odd (c .pieces)) (not (odd (c .pieces)))) (every (λ l. filled (content l)) (c .pieces)))
+fitsBy turn c = both (isNil (c .left)) (both (pick turn (odd (c .pieces)) (not (odd (c .pieces))))
+    (every (λ l. filled (content l)) (c .pieces)))
 
--- the same of loops by turns
+-- 32 where loops by turns do not fill exactly, else 33 where a known descriptor has another length, here or before, else 0
 unfoldable pub loopFault : Bool → List ℕ → Bool → ℕ
 loopFault turn s other =
-    first (not (fitsBy turn (cutOf loopSize s))) 32 (first (either other (not (every (λ l. known (content l)) (cutOf loopSize s .pieces)))) 33 0)
+    first (not (fitsBy turn (cutOf loopSize s))) 32 (first
+    (either other (not (every (λ l. known (content l)) (cutOf loopSize s .pieces)))) 33 0)
 
 -- ---- a slice without its first k bytes
 pub record Behind (s : RefT (List ℕ)) (k : ℕ) (r : RefT (List ℕ)) : Type 0 where

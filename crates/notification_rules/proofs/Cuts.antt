@@ -28,10 +28,10 @@ pub nil-length : (s : List ℕ) → isNil s ≡ true → length s ≡ 0
 nil-length [] h = refl
 nil-length (x ∷ s) h = absurd (never h)
 
-both-true : (t u : Bool) → both t u ≡ true → (t ≡ true) × (u ≡ true)
+pub both-yes : (t u : Bool) → both t u ≡ true → (t ≡ true) × (u ≡ true)
 unfolding both
-both-true true u h = (refl, h)
-both-true false u h = absurd (never h)
+both-yes true u h = (refl, h)
+both-yes false u h = absurd (never h)
 
 module _ (size : Size) where
   pub whole-yes : (s : List ℕ) → 0 < size s → size s ≤ length s → whole size s ≡ true
@@ -45,7 +45,7 @@ module _ (size : Size) where
   pub whole-true : (s : List ℕ) → whole size s ≡ true → (0 < size s) × (size s ≤ length s)
   unfolding whole
   whole-true s h =
-      let p = both-true (ltb 0 (size s)) (leb (size s) (length s)) h in
+      let p = both-yes (ltb 0 (size s)) (leb (size s) (length s)) h in
       (ltb-true 0 (size s) (p .0), leb-true (size s) (length s) (p .1))
 
   run-stop : (k : ℕ) (s : List ℕ) → whole size s ≡ false → run size k s ≡ stop s
@@ -76,11 +76,13 @@ module _ (size : Size) where
   run-fuel (suc j) (suc k) s h g = go (whole size s) refl (run-fuel j k (drop (size s) s))
     where
       go : (b : Bool) → whole size s ≡ b
-          → (length (drop (size s) s) ≤ j → length (drop (size s) s) ≤ k → run size j (drop (size s) s) ≡ run size k (drop (size s) s))
+          → (length (drop (size s) s) ≤ j → length (drop (size s) s) ≤ k
+          → run size j (drop (size s) s) ≡ run size k (drop (size s) s))
           → run size (suc j) s ≡ run size (suc k) s
       go true e ih =
           run-more j s e
-          ∙ ap (more (take (size s) s)) (ih (simp length-drop (omega (arith, whole-true s e))) (simp length-drop (omega (arith, whole-true s e))))
+          ∙ ap (more (take (size s) s)) (ih (simp length-drop (omega (arith, whole-true s e)))
+          (simp length-drop (omega (arith, whole-true s e))))
           ∙ sym (run-more k s e)
       go false e ih = run-stop (suc j) s e ∙ sym (run-stop (suc k) s e)
 

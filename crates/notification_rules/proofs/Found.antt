@@ -15,6 +15,7 @@ use Rattle.notification_rules.specs.Cut.{isNil, Part}
 use Rattle.notification_rules.specs.Loop.{loopsOf, content, tag, descriptorsOf, Pair, pairsOf}
 use Rattle.notification_rules.specs.Target.{streamLocation, covers, by, coverFrom, Location, nowhere, at, located, isLocation, orElse, locationOf, isCover, coverOf, answers, Choice, none, one, firstPair}
 use Rattle.notification_rules.specs.Notice.{refusal, found, chosen, searched, noticeOf}
+use Rattle.notification_rules.proofs.Cuts.{both-yes}
 use Rattle.notification_rules.specs.Right.{Covering, NoLocation, FirstLocation, FirstAnswer, FoundExactly}
 
 -- ---- the first that passes a test
@@ -34,10 +35,17 @@ first-is f [] x h = absurd (never (ap is-one h))
     is-one (one y) = true
 first-is f (y ∷ ys) x h = go (f y) refl h (first-is f ys x)
   where
-    go : (b : Bool) → f y ≡ b → pick b (one y) (firstPair f ys) ≡ one x → (firstPair f ys ≡ one x → First f ys x) → First f (y ∷ ys) x
+    go : (b : Bool) → f y ≡ b → pick b (one y) (firstPair f ys) ≡ one x → (firstPair f ys ≡ one x → First f ys x)
+        → First f (y ∷ ys) x
     go true e h ih =
         let q : y ≡ x = cc in
-        record { earlier = []; later = ys; split = ap (λ (z : Pair). z ∷ ys) q; passed = λ z m. absurd (List·Memᴰ·not-nil m); passes = ap f (sym q) ∙ e }
+        record {
+          earlier = [];
+          later = ys;
+          split = ap (λ (z : Pair). z ∷ ys) q;
+          passed = λ z m. absurd (List·Memᴰ·not-nil m);
+          passes = ap f (sym q) ∙ e;
+        }
     go false e h ih =
         let r = ih h in
         record {
@@ -52,7 +60,8 @@ first-is f (y ∷ ys) x h = go (f y) refl h (first-is f ys x)
         case z (inl q) p = ap f q ∙ e
         case z (inr m) p = p m
 
-pub is-first : (f : Pair → Bool) (earlier : List Pair) (x : Pair) (later : List Pair) → ((y : Pair) → List·Memᴰ y earlier → f y ≡ false) → f x ≡ true
+pub is-first : (f : Pair → Bool) (earlier : List Pair) (x : Pair) (later : List Pair)
+    → ((y : Pair) → List·Memᴰ y earlier → f y ≡ false) → f x ≡ true
     → firstPair f (earlier ++ (x ∷ later)) ≡ one x
 unfolding firstPair pick
 is-first f [] x later p h = rw h
@@ -62,9 +71,11 @@ is-first f (y ∷ ys) x later p h = rw (p y (List·Memᴰ·head refl)) (is-first
 no-location : (ds : List Part) → located ds ≡ nowhere → (d : Part) → List·Memᴰ d ds → tag (d .bytes) ≡ streamLocation → ⊥
 unfolding located pick
 no-location [] h d m e = List·Memᴰ·not-nil m
-no-location (x ∷ xs) h d m e = go (eqb (tag (x .bytes)) streamLocation) refl h (List·Memᴰ·cases-cons m) (λ z n. no-location xs z d n e)
+no-location (x ∷ xs) h d m e = go (eqb (tag (x .bytes)) streamLocation) refl h (List·Memᴰ·cases-cons m)
+    (λ z n. no-location xs z d n e)
   where
-    go : (b : Bool) → eqb (tag (x .bytes)) streamLocation ≡ b → pick b (at x) (located xs) ≡ nowhere → (d ≡ x) ⊎ List·Memᴰ d xs → (located xs ≡ nowhere → List·Memᴰ d xs → ⊥) → ⊥
+    go : (b : Bool) → eqb (tag (x .bytes)) streamLocation ≡ b → pick b (at x) (located xs) ≡ nowhere → (d ≡ x) ⊎ List·Memᴰ d xs
+        → (located xs ≡ nowhere → List·Memᴰ d xs → ⊥) → ⊥
     go true q h c ih = let z : _≡_ {A = ℕ} 0 1 = cc in omega arith
     go false q h (inl r) ih = eqb-false (tag (x .bytes)) streamLocation q (ap (λ (y : Part). tag (y .bytes)) (sym r) ∙ e)
     go false q h (inr n) ih = ih h n
@@ -72,13 +83,16 @@ no-location (x ∷ xs) h d m e = go (eqb (tag (x .bytes)) streamLocation) refl h
 is-nowhere : (ds : List Part) → ((d : Part) → List·Memᴰ d ds → tag (d .bytes) ≡ streamLocation → ⊥) → located ds ≡ nowhere
 unfolding located pick
 is-nowhere [] p = refl
-is-nowhere (x ∷ xs) p = rw (ne-eqb (tag (x .bytes)) streamLocation (p x (List·Memᴰ·head refl))) (is-nowhere xs (λ d m. p d (List·Memᴰ·tail m)))
+is-nowhere (x ∷ xs) p = rw (ne-eqb (tag (x .bytes)) streamLocation (p x (List·Memᴰ·head refl)))
+    (is-nowhere xs (λ d m. p d (List·Memᴰ·tail m)))
 
-is-at : (earlier : List Part) (d : Part) (later : List Part) → ((e : Part) → List·Memᴰ e earlier → tag (e .bytes) ≡ streamLocation → ⊥) → tag (d .bytes) ≡ streamLocation
+is-at : (earlier : List Part) (d : Part) (later : List Part)
+    → ((e : Part) → List·Memᴰ e earlier → tag (e .bytes) ≡ streamLocation → ⊥) → tag (d .bytes) ≡ streamLocation
     → located (earlier ++ (d ∷ later)) ≡ at d
 unfolding located pick
 is-at [] d later p e = rw (eq-eqb (tag (d .bytes)) streamLocation e)
-is-at (x ∷ xs) d later p e = rw (ne-eqb (tag (x .bytes)) streamLocation (p x (List·Memᴰ·head refl))) (is-at xs d later (λ y m. p y (List·Memᴰ·tail m)) e)
+is-at (x ∷ xs) d later p e = rw (ne-eqb (tag (x .bytes)) streamLocation (p x (List·Memᴰ·head refl)))
+    (is-at xs d later (λ y m. p y (List·Memᴰ·tail m)) e)
 
 record At (ds : List Part) (d : Part) : Type 0 where
   earlier : List Part
@@ -92,7 +106,8 @@ unfolding located pick
 at-first [] d h = absurd (let z : _≡_ {A = ℕ} 0 1 = cc in omega arith)
 at-first (x ∷ xs) d h = go (eqb (tag (x .bytes)) streamLocation) refl h (at-first xs d)
   where
-    go : (b : Bool) → eqb (tag (x .bytes)) streamLocation ≡ b → pick b (at x) (located xs) ≡ at d → (located xs ≡ at d → At xs d) → At (x ∷ xs) d
+    go : (b : Bool) → eqb (tag (x .bytes)) streamLocation ≡ b → pick b (at x) (located xs) ≡ at d
+        → (located xs ≡ at d → At xs d) → At (x ∷ xs) d
     go true q h ih =
         let r : x ≡ d = cc in
         record {
@@ -112,7 +127,8 @@ at-first (x ∷ xs) d h = go (eqb (tag (x .bytes)) streamLocation) refl h (at-fi
           tagged = r .tagged;
         }
       where
-        case : (e : Part) → (e ≡ x) ⊎ List·Memᴰ e (ih h .earlier) → tag (e .bytes) ≡ streamLocation → (List·Memᴰ e (ih h .earlier) → tag (e .bytes) ≡ streamLocation → ⊥) → ⊥
+        case : (e : Part) → (e ≡ x) ⊎ List·Memᴰ e (ih h .earlier) → tag (e .bytes) ≡ streamLocation
+            → (List·Memᴰ e (ih h .earlier) → tag (e .bytes) ≡ streamLocation → ⊥) → ⊥
         case e (inl w) z p = eqb-false (tag (x .bytes)) streamLocation q (ap (λ (y : Part). tag (y .bytes)) (sym w) ∙ z)
         case e (inr n) z p = p n z
 
@@ -125,15 +141,18 @@ pub location-at : (l d : Part) → FirstLocation l d → located (descriptorsOf 
 location-at l d r = ap located (r .split) ∙ is-at (r .earlier) d (r .later) (r .others) (r .tagged)
 
 -- of the one loop, else of the other
-two-at : (o p d : Part) → orElse (located (descriptorsOf o)) (located (descriptorsOf p)) ≡ at d → FirstLocation o d ⊎ (NoLocation o × FirstLocation p d)
+two-at : (o p d : Part) → orElse (located (descriptorsOf o)) (located (descriptorsOf p)) ≡ at d
+    → FirstLocation o d ⊎ (NoLocation o × FirstLocation p d)
 unfolding orElse
 two-at o p d h = go (located (descriptorsOf o)) refl h
   where
-    go : (a : Location) → located (descriptorsOf o) ≡ a → orElse a (located (descriptorsOf p)) ≡ at d → FirstLocation o d ⊎ (NoLocation o × FirstLocation p d)
+    go : (a : Location) → located (descriptorsOf o) ≡ a → orElse a (located (descriptorsOf p)) ≡ at d
+        → FirstLocation o d ⊎ (NoLocation o × FirstLocation p d)
     go nowhere e h = inr (no-location (descriptorsOf o) e, first-location p d h)
     go (at x) e h = inl (first-location o d (e ∙ h))
 
-at-two : (o p d : Part) → FirstLocation o d ⊎ (NoLocation o × FirstLocation p d) → orElse (located (descriptorsOf o)) (located (descriptorsOf p)) ≡ at d
+at-two : (o p d : Part) → FirstLocation o d ⊎ (NoLocation o × FirstLocation p d)
+    → orElse (located (descriptorsOf o)) (located (descriptorsOf p)) ≡ at d
 unfolding orElse
 at-two o p d (inl r) = rw (location-at o d r)
 at-two o p d (inr r) = rw (is-nowhere (descriptorsOf o) (r .0), location-at p d (r .1))
@@ -142,7 +161,8 @@ two-nowhere : (o p : Part) → orElse (located (descriptorsOf o)) (located (desc
 unfolding orElse
 two-nowhere o p h = go (located (descriptorsOf o)) refl h
   where
-    go : (a : Location) → located (descriptorsOf o) ≡ a → orElse a (located (descriptorsOf p)) ≡ nowhere → NoLocation o × NoLocation p
+    go : (a : Location) → located (descriptorsOf o) ≡ a → orElse a (located (descriptorsOf p)) ≡ nowhere
+        → NoLocation o × NoLocation p
     go nowhere e h = (no-location (descriptorsOf o) e, no-location (descriptorsOf p) h)
     go (at x) e h = absurd (let z : _≡_ {A = ℕ} 0 1 = cc in omega arith)
 
@@ -151,7 +171,8 @@ unfolding orElse
 nowhere-two o p n = rw (is-nowhere (descriptorsOf o) (n .0), is-nowhere (descriptorsOf p) (n .1))
 
 -- ---- covering
-covered-one : (device : Address) (ds : List Part) → isCover (coverFrom device ds) ≡ true → (d : Part) × List·Memᴰ d ds × (covers device (d .bytes) ≡ true)
+covered-one : (device : Address) (ds : List Part) → isCover (coverFrom device ds) ≡ true
+    → (d : Part) × List·Memᴰ d ds × (covers device (d .bytes) ≡ true)
 unfolding coverFrom isCover pick
 covered-one device [] h = absurd (never h)
 covered-one device (x ∷ xs) h = go (covers device (x .bytes)) refl h (covered-one device xs)
@@ -162,12 +183,14 @@ covered-one device (x ∷ xs) h = go (covers device (x .bytes)) refl h (covered-
     go true e h ih = (x, List·Memᴰ·head refl, e)
     go false e h ih = let r = ih h in (r .0, List·Memᴰ·tail (r .1), r .2)
 
-one-covers : (device : Address) (ds : List Part) (d : Part) → List·Memᴰ d ds → covers device (d .bytes) ≡ true → isCover (coverFrom device ds) ≡ true
+one-covers : (device : Address) (ds : List Part) (d : Part) → List·Memᴰ d ds → covers device (d .bytes) ≡ true
+    → isCover (coverFrom device ds) ≡ true
 unfolding coverFrom isCover pick
 one-covers device [] d m e = absurd (List·Memᴰ·not-nil m)
 one-covers device (x ∷ xs) d m e = go (covers device (x .bytes)) refl (List·Memᴰ·cases-cons m) (λ n. one-covers device xs d n e)
   where
-    go : (b : Bool) → covers device (x .bytes) ≡ b → (d ≡ x) ⊎ List·Memᴰ d xs → (List·Memᴰ d xs → isCover (coverFrom device xs) ≡ true)
+    go : (b : Bool) → covers device (x .bytes) ≡ b → (d ≡ x) ⊎ List·Memᴰ d xs
+        → (List·Memᴰ d xs → isCover (coverFrom device xs) ≡ true)
         → isCover (pick b (by (x .place)) (coverFrom device xs)) ≡ true
     go true q c ih = refl
     go false q (inl r) ih = absurd (never (sym q ∙ ap (λ (y : Part). covers device (y .bytes)) (sym r) ∙ e))
@@ -177,7 +200,8 @@ cover-covering : (device : Address) (t : Part) → isCover (coverOf device t) �
 unfolding coverOf pick
 cover-covering device t h = go (isNil (content (t .bytes))) refl h
   where
-    go : (b : Bool) → isNil (content (t .bytes)) ≡ b → isCover (pick b (by 0) (coverFrom device (descriptorsOf t))) ≡ true → Covering device t
+    go : (b : Bool) → isNil (content (t .bytes)) ≡ b → isCover (pick b (by 0) (coverFrom device (descriptorsOf t))) ≡ true
+        → Covering device t
     go true e h = inl e
     go false e h = inr (covered-one device (descriptorsOf t) h)
 
@@ -186,16 +210,12 @@ unfolding coverOf pick isCover
 covering-cover device t (inl e) = rw e
 covering-cover device t (inr r) = go (isNil (content (t .bytes))) (one-covers device (descriptorsOf t) (r .0) (r .1) (r .2))
   where
-    go : (b : Bool) → isCover (coverFrom device (descriptorsOf t)) ≡ true → isCover (pick b (by 0) (coverFrom device (descriptorsOf t))) ≡ true
+    go : (b : Bool) → isCover (coverFrom device (descriptorsOf t)) ≡ true
+        → isCover (pick b (by 0) (coverFrom device (descriptorsOf t))) ≡ true
     go true h = refl
     go false h = h
 
 -- ---- the test
-both-yes : (t u : Bool) → both t u ≡ true → (t ≡ true) × (u ≡ true)
-unfolding both
-both-yes true u h = (refl, h)
-both-yes false u h = absurd (never h)
-
 no-place : (t : Bool) (l : Location) → both t (isLocation l) ≡ false → t ≡ true → l ≡ nowhere
 unfolding both isLocation
 no-place t nowhere h e = refl
@@ -217,12 +237,14 @@ pub unrefused : (device : Address) (s : List ℕ) → refusal s ≡ 0 → notice
 unfolding noticeOf pick
 unrefused device s h = rw (eq-eqb (refusal s) 0 h)
 
-found-first : (device : Address) (s : List ℕ) (p : ℕ) (ls : List Part) → loopsOf s ≡ ls → searched device ls ≡ Found p → FirstAnswer device s p
+found-first : (device : Address) (s : List ℕ) (p : ℕ) (ls : List Part) → loopsOf s ≡ ls → searched device ls ≡ Found p
+    → FirstAnswer device s p
 unfolding searched chosen answers locationOf
 found-first device s p [] e h = absurd (let z : _≡_ {A = ℕ} 0 1 = cc in omega arith)
 found-first device s p (platform ∷ loops) e h = go (firstPair (answers device platform) (pairsOf loops)) refl h
   where
-    go : (c : Choice) → firstPair (answers device platform) (pairsOf loops) ≡ c → chosen platform c ≡ Found p → FirstAnswer device s p
+    go : (c : Choice) → firstPair (answers device platform) (pairsOf loops) ≡ c → chosen platform c ≡ Found p
+        → FirstAnswer device s p
     go none q h = absurd (let z : _≡_ {A = ℕ} 0 1 = cc in omega arith)
     go (one x) q h =
         let r = first-is _ (pairsOf loops) x q in
@@ -236,7 +258,8 @@ found-first device s p (platform ∷ loops) e h = go (firstPair (answers device 
           pair = x;
           later = r .later;
           split = r .split;
-          passed = λ z m c. two-nowhere (z .operational) platform (no-place _ _ (r .passed z m) (covering-cover device (z .target) c));
+          passed = λ z m c. two-nowhere (z .operational) platform
+              (no-place _ _ (r .passed z m) (covering-cover device (z .target) c));
           covering = cover-covering device (x .target) (y .0);
           location = d .0;
           located = two-at (x .operational) platform (d .0) (d .1 .0);
@@ -247,12 +270,18 @@ first-found : (device : Address) (s : List ℕ) (p : ℕ) → FirstAnswer device
 unfolding searched chosen found answers locationOf both isLocation
 first-found device s p a =
     let f = answers device (a .platform) in
-    let w : locationOf (a .platform) (a .pair) ≡ at (a .location) = at-two (a .pair .operational) (a .platform) (a .location) (a .located) in
+    let w : locationOf (a .platform) (a .pair) ≡ at (a .location) = at-two (a .pair .operational) (a .platform) (a .location)
+    (a .located) in
     let t : f (a .pair) ≡ true = rw (covering-cover device (a .pair .target) (a .covering), w) in
     let e : firstPair f (pairsOf (a .loops)) ≡ one (a .pair) =
-    ap (firstPair f) (a .split) ∙ is-first f (a .earlier) (a .pair) (a .later) (λ y m. passes-not _ _ (λ c. nowhere-two (y .operational) (a .platform) (a .passed y m (cover-covering device (y .target) c)))) t in
+    ap (firstPair f) (a .split) ∙ is-first f (a .earlier) (a .pair) (a .later)
+    (λ y m. passes-not _ _ (λ c. nowhere-two (y .operational) (a .platform)
+    (a .passed y m (cover-covering device (y .target) c)))) t in
     rw (a .cut, e, w, a .place)
 
 pub found-exactly : FoundExactly
-found-exactly device s p h =
-    (λ e. found-first device s p (loopsOf s) refl (sym (unrefused device s h) ∙ e), λ a. unrefused device s h ∙ first-found device s p a)
+found-exactly device s p h = (
+  λ e. found-first device s p (loopsOf s) refl (sym (unrefused device s h) ∙ e),
+  λ a. unrefused device s h
+      ∙ first-found device s p a,
+)

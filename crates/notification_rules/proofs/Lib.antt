@@ -1,4 +1,5 @@
 pub mod Cuts
+pub mod Entries
 pub mod Found
 pub mod Others
 pub mod Parts

@@ -21,14 +21,17 @@ other-covers : (device : Address) (d : List ℕ) → (tag d ≡ macAddress → �
 unfolding covers any
 other-covers device d m r =
     ap (λ (a : List ℕ). any (hit device d) (cutOf (λ _. entrySize (tag d)) a .pieces)) (no-entries d m r)
-    ∙ ap (λ (c : Cut). any (hit device d) (c .pieces)) (stops (λ _. entrySize (tag d)) (λ _. entry-some (tag d)) [] (entry-some (tag d)))
+    ∙ ap (λ (c : Cut). any (hit device d) (c .pieces)) (stops (λ _. entrySize (tag d)) (λ _. entry-some (tag d)) []
+    (entry-some (tag d)))
 
-none-covers : (device : Address) (ds : List Part) → ((d : Part) → List·Memᴰ d ds → (tag (d .bytes) ≡ macAddress → ⊥) × (tag (d .bytes) ≡ macAddressRange → ⊥))
+none-covers : (device : Address) (ds : List Part) → ((d : Part) → List·Memᴰ d ds
+    → (tag (d .bytes) ≡ macAddress → ⊥) × (tag (d .bytes) ≡ macAddressRange → ⊥))
     → coverFrom device ds ≡ nobody
 unfolding coverFrom pick
 none-covers device [] p = refl
 none-covers device (x ∷ xs) p =
-    rw (other-covers device (x .bytes) (p x (List·Memᴰ·head refl) .0) (p x (List·Memᴰ·head refl) .1)) (none-covers device xs (λ d m. p d (List·Memᴰ·tail m)))
+    rw (other-covers device (x .bytes) (p x (List·Memᴰ·head refl) .0) (p x (List·Memᴰ·head refl) .1))
+    (none-covers device xs (λ d m. p d (List·Memᴰ·tail m)))
 
 pub others-cover-nobody : OthersCoverNobody
 unfolding coverOf pick

@@ -75,7 +75,11 @@ pub known-more : (s : List ℕ) → descriptorSize s ≤ length s
 unfolding known every
 known-more s h =
     ap (λ (c : Cut). every (λ d. rightLength (tag d) (bodyLength d)) (c .pieces)) (descriptors-more s h)
-    ∙ rw (front (descriptorSize s) 0 s (omega (arith, descriptor-two s)), front (descriptorSize s) 1 s (omega (arith, descriptor-two s)))
+    ∙ rw (
+      front (descriptorSize s) 0 s (omega (arith, descriptor-two s)),
+      front (descriptorSize s) 1 s
+          (omega (arith, descriptor-two s)),
+    )
 
 -- ---- located
 pub located-stop : (o : ℕ) (s : List ℕ) → length s < descriptorSize s → located (placed o (descriptorPieces s)) ≡ nowhere
@@ -105,7 +109,8 @@ located-any o p (d ∷ ds) = go (eqb (tag d) streamLocation) (located-any (o + l
     go false ih = ih
 
 -- ---- covering
-pub covered-any : (device : Address) (o : ℕ) (ds : List (List ℕ)) → isCover (coverFrom device (placed o ds)) ≡ any (covers device) ds
+pub covered-any : (device : Address) (o : ℕ) (ds : List (List ℕ))
+    → isCover (coverFrom device (placed o ds)) ≡ any (covers device) ds
 unfolding coverFrom placed isCover any pick
 covered-any device o [] = refl
 covered-any device o (d ∷ ds) = go (covers device d) (covered-any device (o + length d) ds)

@@ -30,7 +30,8 @@ unfolding located pick
 located-one [] d h = absurd (let z : _≡_ {A = ℕ} 0 1 = cc in omega arith)
 located-one (x ∷ xs) d h = go (eqb (tag (x .bytes)) streamLocation) refl h (located-one xs d)
   where
-    go : (b : Bool) → eqb (tag (x .bytes)) streamLocation ≡ b → pick b (at x) (located xs) ≡ at d → (located xs ≡ at d → List·Memᴰ d xs × (tag (d .bytes) ≡ streamLocation))
+    go : (b : Bool) → eqb (tag (x .bytes)) streamLocation ≡ b → pick b (at x) (located xs) ≡ at d
+        → (located xs ≡ at d → List·Memᴰ d xs × (tag (d .bytes) ≡ streamLocation))
         → List·Memᴰ d (x ∷ xs) × (tag (d .bytes) ≡ streamLocation)
     go true e h ih =
         let q : d ≡ x = cc in
@@ -43,7 +44,8 @@ operational-one [] x m = absurd (List·Memᴰ·not-nil m)
 operational-one (t ∷ []) x m = absurd (List·Memᴰ·not-nil m)
 operational-one (t ∷ o ∷ ls) x m = go (List·Memᴰ·cases-cons m) (operational-one ls x)
   where
-    go : (x ≡ record { target = t; operational = o }) ⊎ List·Memᴰ x (pairsOf ls) → (List·Memᴰ x (pairsOf ls) → List·Memᴰ (x .operational) ls) → List·Memᴰ (x .operational) (t ∷ o ∷ ls)
+    go : (x ≡ record { target = t; operational = o }) ⊎ List·Memᴰ x (pairsOf ls)
+        → (List·Memᴰ x (pairsOf ls) → List·Memᴰ (x .operational) ls) → List·Memᴰ (x .operational) (t ∷ o ∷ ls)
     go (inl e) ih = List·Memᴰ·tail (List·Memᴰ·head (ap (λ (y : Pair). y .operational) e))
     go (inr n) ih = List·Memᴰ·tail (List·Memᴰ·tail (ih n))
 
@@ -77,14 +79,18 @@ piece-stands h k l m = go (decLe k (length h))
   where
     go : Dec (k ≤ length h) → Stands h l
     go (yes g) =
-        placed-stands h k (cutOf loopSize (drop k h) .pieces) (cutOf loopSize (drop k h) .left) l (rw (rejoined loopSize (drop k h)) (rest-stands h k g)) m
+        placed-stands h k (cutOf loopSize (drop k h) .pieces) (cutOf loopSize (drop k h) .left) l
+        (rw (rejoined loopSize (drop k h)) (rest-stands h k g)) m
         .stands
     go (no g) = let w : length h ≤ k = omega arith in absurd (List·Memᴰ·not-nil (rw (no-pieces h k w) at m))
 
 loop-stands : (s : List ℕ) (l : Part) → List·Memᴰ l (loopsOf s) → Stands (checked s) l × (2 ≤ length (l .bytes))
 unfolding loopsOf loopCut
-loop-stands s l m =
-    (piece-stands (checked s) 12 l m, loop-long (drop 12 (checked s)) (l .bytes) (placed-member 12 (cutOf loopSize (drop 12 (checked s)) .pieces) l m))
+loop-stands s l m = (
+  piece-stands (checked s) 12 l m,
+  loop-long (drop 12 (checked s)) (l .bytes)
+      (placed-member 12 (cutOf loopSize (drop 12 (checked s)) .pieces) l m),
+)
 
 nine-long : (t n : ℕ) → t ≡ streamLocation → rightLength t n ≡ true → n ≡ 9
 unfolding rightLength pick
@@ -97,11 +103,14 @@ nine-in s l d ok m e =
     let t = loop-stands s l m in
     let b = stands-behind (checked s) l 2 (t .1) (t .0) in
     let c = cutOf descriptorSize (content (l .bytes)) in
-    let f : Stands (checked s) (part (l .place + 2) (flatten (c .pieces) ++ c .left)) = rw (rejoined descriptorSize (content (l .bytes))) b in
+    let f : Stands (checked s) (part (l .place + 2) (flatten (c .pieces) ++ c .left)) = rw
+    (rejoined descriptorSize (content (l .bytes))) b in
     let r = placed-stands (checked s) (l .place + 2) (c .pieces) (c .left) d f (o .0) in
-    let k = every-one (λ y. known (content y)) (loopCut s .pieces) (l .bytes) (ok .right) (placed-member 12 (loopCut s .pieces) l m) in
+    let k = every-one (λ y. known (content y)) (loopCut s .pieces) (l .bytes) (ok .right)
+    (placed-member 12 (loopCut s .pieces) l m) in
     let u = placed-member (l .place + 2) (c .pieces) d (o .0) in
-    let n = nine-long (tag (d .bytes)) (bodyLength (d .bytes)) (o .1) (every-one (λ y. rightLength (tag y) (bodyLength y)) (c .pieces) (d .bytes) k u) in
+    let n = nine-long (tag (d .bytes)) (bodyLength (d .bytes)) (o .1)
+    (every-one (λ y. rightLength (tag y) (bodyLength y)) (c .pieces) (d .bytes) k u) in
     let w : length (d .bytes) ≡ 11 = omega (arith, descriptor-long (content (l .bytes)) (d .bytes) u, n) in
     record {
       ofSection = m;
@@ -133,12 +142,24 @@ place-is-right device s p h = go (a .located)
     a : FirstAnswer device s p
     a = found-exactly device s p z .0 h
 
-    go : FirstLocation (a .pair .operational) (a .location) ⊎ (NoLocation (a .pair .operational) × FirstLocation (a .platform) (a .location))
+    go : FirstLocation (a .pair .operational) (a .location)
+        ⊎ (NoLocation (a .pair .operational) × FirstLocation (a .platform) (a .location))
         → (l : Part) × (d : Part) × NineBytes s l d × (p ≡ d .place + 2)
     go (inl e) =
         let m : List·Memᴰ (a .pair .operational) (loopsOf s) =
-        rw (a .cut) (List·Memᴰ·tail (operational-one (a .loops) (a .pair) (rw (a .split) (split-one (a .earlier) (a .later) (a .pair))))) in
-        (a .pair .operational, a .location, nine-in s (a .pair .operational) (a .location) (sound s z) m (location-at (a .pair .operational) (a .location) e), a .place)
+        rw (a .cut) (List·Memᴰ·tail (operational-one (a .loops) (a .pair)
+        (rw (a .split) (split-one (a .earlier) (a .later) (a .pair))))) in (
+          a .pair .operational,
+          a .location,
+          nine-in s (a .pair .operational) (a .location) (sound s z) m
+              (location-at (a .pair .operational) (a .location) e),
+          a .place,
+        )
     go (inr e) =
-        let m : List·Memᴰ (a .platform) (loopsOf s) = rw (a .cut) (List·Memᴰ·head refl) in
-        (a .platform, a .location, nine-in s (a .platform) (a .location) (sound s z) m (location-at (a .platform) (a .location) (e .1)), a .place)
+        let m : List·Memᴰ (a .platform) (loopsOf s) = rw (a .cut) (List·Memᴰ·head refl) in (
+          a .platform,
+          a .location,
+          nine-in s (a .platform) (a .location) (sound s z) m
+              (location-at (a .platform) (a .location) (e .1)),
+          a .place,
+        )

@@ -30,7 +30,8 @@ pub record Sound (s : List ℕ) : Type 0 where
 pub sound : (s : List ℕ) → refusal s ≡ 0 → Sound s
 unfolding refusal firstOf loopLines misfit otherLength
 sound s h =
-    let p : firstOf (platformLines s ++ loopLines s) ≡ 0 = past (faultLines notificationForm s) (platformLines s ++ loopLines s) (fault-numbered notificationForm s) h in
+    let p : firstOf (platformLines s ++ loopLines s) ≡ 0 = past (faultLines notificationForm s) (platformLines s ++ loopLines s)
+    (fault-numbered notificationForm s) h in
     let q : firstOf (loopLines s) ≡ 0 = past (platformLines s) (loopLines s) (platform-numbered s) p in
     let n = none-applies (misfit s) (otherLength s) q in
     record {

@@ -9,15 +9,16 @@ use Rattle.wire.specs.Bytes.{byteAt, bytesOf}
 use Rattle.rules.specs.declared.Address.{Address}
 use Rattle.rules.specs.Section.{crcPlace}
 use Rattle.notification_rules.specs.declared.Notice.the-variants.{Found}
-use Rattle.notification_rules.specs.Cut.{cutOf, isNil, odd, Part}
+use Rattle.notification_rules.specs.Cut.{cutOf, isNil, any, odd, Part}
 use Rattle.notification_rules.specs.Loop.{descriptorSize, loopCut, loopsOf, content, tag, descriptorsOf, Pair, pairsOf}
-use Rattle.notification_rules.specs.Target.{covers, nobody, coverOf}
+use Rattle.notification_rules.specs.Target.{addressBytes, sameUnder, inRange, covers, nobody, coverOf}
 use Rattle.notification_rules.specs.Notice.{misfit, refusal, noticeOf}
 
 -- ---- 3 is answered exactly where a pair covers the device and has a location, with the location of the first such pair
 -- the target loop is empty, or one of its descriptors covers the device
 abbrev pub Covering : Address → Part → Type 0
-Covering device target = (isNil (content (target .bytes)) ≡ true) ⊎ ((d : Part) × List·Memᴰ d (descriptorsOf target) × (covers device (d .bytes) ≡ true))
+Covering device target = (isNil (content (target .bytes)) ≡ true)
+    ⊎ ((d : Part) × List·Memᴰ d (descriptorsOf target) × (covers device (d .bytes) ≡ true))
 
 -- no descriptor of a loop has the tag 0x13
 abbrev pub NoLocation : Part → Type 0
@@ -56,6 +57,12 @@ OthersCoverNobody =
     (device : Address) (target : Part) → isNil (content (target .bytes)) ≡ false
     → ((d : Part) → List·Memᴰ d (descriptorsOf target) → (tag (d .bytes) ≡ 0x07 → ⊥) × (tag (d .bytes) ≡ 0x0E → ⊥))
     → coverOf device target ≡ nobody
+
+-- ---- a device's own address covers it under every mask, and as a range of one
+abbrev pub OwnAddressCovers : Type 0
+OwnAddressCovers =
+    (device : Address) (mask : List ℕ)
+    → (sameUnder device mask (addressBytes device) ≡ true) × (inRange device (addressBytes device ++ addressBytes device) ≡ true)
 
 -- ---- the place that 3 is answered with is that of the nine bytes of a 0x13, inside a loop that ends before the CRC_32
 -- the part's bytes stand in s at its place: what stands before and behind it
@@ -105,7 +112,8 @@ DescriptorsCut =
 
 abbrev pub LoopsCut : Type 0
 LoopsCut =
-    (front crc : List ℕ) (ls : List (List ℕ)) → length front ≡ 12 → length crc ≡ 4 → ((l : List ℕ) → List·Memᴰ l ls → length l ≤ 4095)
+    (front crc : List ℕ) (ls : List (List ℕ)) → length front ≡ 12 → length crc ≡ 4
+    → ((l : List ℕ) → List·Memᴰ l ls → length l ≤ 4095)
     → loopCut (sectionWritten front ls crc) ≡ record { pieces = map loopWritten ls; left = [] }
 
 -- 32 is met exactly where the loops are even in number: no platform loop, or a target loop without its operational loop
@@ -114,3 +122,15 @@ WrittenFits =
     (front crc : List ℕ) (ls : List (List (ℕ × List ℕ))) → length front ≡ 12 → length crc ≡ 4
     → ((l : List ℕ) → List·Memᴰ l (map contentWritten ls) → length l ≤ 4095)
     → misfit (sectionWritten front (map contentWritten ls) crc) ≡ not (odd ls)
+
+-- a 0x07 covers by one of its addresses, under its mask; a 0x0E by one of its pairs
+abbrev pub MasksCover : Type 0
+MasksCover =
+    (device : Address) (mask : List ℕ) (entries : List (List ℕ)) → length mask ≡ 6
+    → ((e : List ℕ) → List·Memᴰ e entries → length e ≡ 6)
+    → covers device (descriptorWritten (0x07, mask ++ flatten entries)) ≡ any (sameUnder device mask) entries
+
+abbrev pub RangesCover : Type 0
+RangesCover =
+    (device : Address) (entries : List (List ℕ)) → ((e : List ℕ) → List·Memᴰ e entries → length e ≡ 12)
+    → covers device (descriptorWritten (0x0E, flatten entries)) ≡ any (inRange device) entries

@@ -28,8 +28,11 @@ rightLength t n =
     (pick (eqb t macAddressRange) (eqb (n % 12) 0) (pick (eqb t streamLocation) (eqb n 9) true))
 
 -- ---- addresses, as 48 bits; here MAC_address_1 stands first
+abbrev pub addressBytes : Address → List ℕ
+addressBytes a = a .mac1 ∷ a .mac2 ∷ a .mac3 ∷ a .mac4 ∷ a .mac5 ∷ a .mac6 ∷ []
+
 unfoldable pub addressNumber : Address → ℕ
-addressNumber a = numberAt 6 (a .mac1 ∷ a .mac2 ∷ a .mac3 ∷ a .mac4 ∷ a .mac5 ∷ a .mac6 ∷ []) 0
+addressNumber a = numberAt 6 (addressBytes a) 0
 
 -- the address at the front is the device's under the mask's one bits
 unfoldable pub sameUnder : Address → List ℕ → List ℕ → Bool

@@ -32,17 +32,20 @@ add-result-2 c = search needs
 
 sub-result : tie.Need-sub-result
 sub-result c = let a = c .before .before .before .args in
-    let e : c .loop-size .result ≡ loopSize (drop (a .at) (now (a .s))) = c .loop-size .ensures .is ∙ rw (from (a .at) (now (a .s))) in
+    let e : c .loop-size .result ≡ loopSize (drop (a .at) (now (a .s))) = c .loop-size .ensures .is
+    ∙ rw (from (a .at) (now (a .s))) in
     omega (arith, loop-two (drop (a .at) (now (a .s))))
 
 part-result-start : tie.Need-part-result-start
 part-result-start c = let a = c .before .before .before .args in
-    let e : c .loop-size .result ≡ loopSize (drop (a .at) (now (a .s))) = c .loop-size .ensures .is ∙ rw (from (a .at) (now (a .s))) in
+    let e : c .loop-size .result ≡ loopSize (drop (a .at) (now (a .s))) = c .loop-size .ensures .is
+    ∙ rw (from (a .at) (now (a .s))) in
     omega (arith, loop-two (drop (a .at) (now (a .s))))
 
 part-result-end : tie.Need-part-result-end
 part-result-end c = let a = c .before .before .before .args in
-    let e : c .loop-size .result ≡ loopSize (drop (a .at) (now (a .s))) = c .loop-size .ensures .is ∙ rw (from (a .at) (now (a .s))) in
+    let e : c .loop-size .result ≡ loopSize (drop (a .at) (now (a .s))) = c .loop-size .ensures .is
+    ∙ rw (from (a .at) (now (a .s))) in
     omega (arith, c .before .before .before .pre)
 
 returns : tie.Need-returns

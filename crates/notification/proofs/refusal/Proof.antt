@@ -1,5 +1,6 @@
 -- The table is decided in parts: 12 to 18, then 30 and 31, then 32 and 33, which the readers of the loops give.
-use Rattle.notification.proofs.Refusals.{platform-numbered, loops-told}
+use Rattle.notification_rules.proofs.Sound.{platform-numbered}
+use Rattle.notification.proofs.Faults.{loops-told}
 use Rattle.notification.specs.Readers.{loopFault}
 use Rattle.notification_rules.specs.Notice.{notificationForm, platformLines, refusal}
 use Rattle.rules.proofs.Check.{fault-numbered}
@@ -40,7 +41,8 @@ returns-2 c = let s = now (c .before .before .before .before .before .before .ar
     let p = c .before .platform-fault .ensures in
     p
     ∙ sym (firstOf-here (platformLines s) _ (λ z. c .if2 .taken (p ∙ z)))
-    ∙ sym (firstOf-past (faultLines notificationForm s) _ (fault-numbered notificationForm s) (was e (c .before .before .if1 .left)))
+    ∙ sym (firstOf-past (faultLines notificationForm s) _ (fault-numbered notificationForm s)
+    (was e (c .before .before .if1 .left)))
 
 checked-requires : tie.Need-checked-requires
 checked-requires c κs = search needs
@@ -58,10 +60,12 @@ returns-3 c = let s = now (c .before .before .before .before .before .before .be
     let e = f .fault .ensures ∙ ap (λ (f : Form). fault f s) (f .before .notification-form .ensures) in
     let p = c .before .before .before .before .platform-fault .ensures in
     c .operational-loop .ensures
-    ∙ ap (λ (l : List ℕ). loopFault true l false) (c .before .behind .ensures .bytes ∙ ap (λ (l : List ℕ). drop 12 l) (c .before .before .checked .ensures .bytes))
+    ∙ ap (λ (l : List ℕ). loopFault true l false) (c .before .behind .ensures .bytes
+    ∙ ap (λ (l : List ℕ). drop 12 l) (c .before .before .checked .ensures .bytes))
     ∙ loops-told s
     ∙ sym (firstOf-past (platformLines s) _ (platform-numbered s) (was p (c .before .before .before .if2 .left)))
-    ∙ sym (firstOf-past (faultLines notificationForm s) _ (fault-numbered notificationForm s) (was e (c .before .before .before .before .before .if1 .left)))
+    ∙ sym (firstOf-past (faultLines notificationForm s) _ (fault-numbered notificationForm s)
+    (was e (c .before .before .before .before .before .if1 .left)))
 
 pub refusal-spec : {M : Type 1} → statement M
 refusal-spec =

@@ -19,7 +19,13 @@ byte-at-requires-4 c κs = search needs
 
 returns : tie.Need-returns
 unfolding wrongHash platformIdHash
-returns c = rw (c .byte-at4 .ensures .is, c .before .byte-at3 .ensures .is, c .before .before .byte-at2 .ensures .is, c .before .before .before .byte-at .ensures .is)
+returns c = rw (
+  c .byte-at4 .ensures .is,
+  c .before .byte-at3 .ensures .is,
+  c .before .before .byte-at2 .ensures .is,
+  c .before
+      .before .before .byte-at .ensures .is,
+)
 
 pub wrong-hash-spec : {M : Type 1} → statement M
 wrong-hash-spec =

@@ -58,7 +58,8 @@ location-returns : (t : ℕ) → location-lts.Need-returns (
   location-below t,
   location.Post,
 ) (location-at t) location.Post
-location-returns t c = λ start o i. found-stop start o _ (now (c .before .before .before .before .args .s)) _ (c .before .before .descriptor-size .ensures .is) (c .before .if1 .taken) refl
+location-returns t c = λ start o i. found-stop start o _ (now (c .before .before .before .before .args .s)) _
+    (c .before .before .descriptor-size .ensures .is) (c .before .if1 .taken) refl
 
 location-byte-at-requires : (t : ℕ) → location-lts.Need-byte-at-requires (
   descriptor-size-reads.Asked,
@@ -78,7 +79,8 @@ location-slice-aggregate-result-2 : (t : ℕ) → location-lts.Need-slice-aggreg
   location-below t,
   location.Post,
 ) (location-at t) location.Post
-location-slice-aggregate-result-2 t c = sym (length-take-le _ (now (c .before .before .before .before .before .before .args .s)) (omega arith))
+location-slice-aggregate-result-2 t c = sym (length-take-le _ (now (c .before .before .before .before .before .before .args .s))
+    (omega arith))
 
 location-returns-2 : (t : ℕ) → location-lts.Need-returns-2 (
   descriptor-size-reads.Asked,
@@ -88,7 +90,8 @@ location-returns-2 : (t : ℕ) → location-lts.Need-returns-2 (
   location-below t,
   location.Post,
 ) (location-at t) location.Post
-location-returns-2 t c = λ start o i. found-here start o _ (now (c .before .before .before .before .before .before .args .s)) _ (c .before .before .before .before .descriptor-size .ensures .is) (omega arith)
+location-returns-2 t c = λ start o i. found-here start o _ (now (c .before .before .before .before .before .before .args .s)) _
+    (c .before .before .before .before .descriptor-size .ensures .is) (omega arith)
     (was (c .before .before .byte-at .ensures .is) (c .before .if2 .taken))
     (record { bytes = refl; block = i .block; place = i .place })
 
@@ -130,7 +133,16 @@ location-location-requires : (t : ℕ) → location-lts.Need-location-requires (
   location-below t,
   location.Post,
 ) (location-at t) location.Post
-location-location-requires t c κs = (rw from (simp length-drop (omega (arith, descriptor-two (now (c .before .before .before .before .before .before .args .s)), c .before .before .before .before .descriptor-size .ensures .is))), tt)
+location-location-requires t c κs = (
+  rw from (simp length-drop
+      (omega (
+        arith,
+        descriptor-two (now (c .before .before .before .before .before .before .args .s)),
+        c .before .before .before
+            .before .descriptor-size .ensures .is,
+      ))),
+  tt,
+)
 
 location-returns-3 : (t : ℕ) → location-lts.Need-returns-3 (
   descriptor-size-reads.Asked,
@@ -140,7 +152,9 @@ location-returns-3 : (t : ℕ) → location-lts.Need-returns-3 (
   location-below t,
   location.Post,
 ) (location-at t) location.Post
-location-returns-3 t c = λ start o i. found-more start o _ (now (c .before .before .before .before .before .before .before .args .s)) _ (c .before .before .before .before .before .descriptor-size .ensures .is) (omega arith)
+location-returns-3 t c = λ start o i. found-more start o _
+    (now (c .before .before .before .before .before .before .before .args .s)) _
+    (c .before .before .before .before .before .descriptor-size .ensures .is) (omega arith)
     (λ z. c .before .before .if2 .left (c .before .before .before .byte-at .ensures .is ∙ z))
     (c .location .ensures start _ (record { bytes = refl; block = i .block; place = omega (arith, i .place) }))
 

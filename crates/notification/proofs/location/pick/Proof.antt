@@ -11,7 +11,8 @@ behind-requires : tie.Need-behind-requires
 behind-requires c κs = search needs
 
 returns : tie.Need-returns
-returns c = λ start o p i j. picked-own start _ _ (c .behind .ensures) _ _ (c .before .before .location .ensures start o i) (c .before .if1 .taken)
+returns c = λ start o p i j. picked-own start _ _ (c .behind .ensures) _ _ (c .before .before .location .ensures start o i)
+    (c .before .if1 .taken)
 
 location-requires-2 : tie.Need-location-requires-2
 location-requires-2 c κs = search needs
@@ -20,7 +21,8 @@ behind-requires-2 : tie.Need-behind-requires-2
 behind-requires-2 c κs = search needs
 
 returns-2 : tie.Need-returns-2
-returns-2 c = λ start o p i j. picked-other start _ _ (c .behind2 .ensures) _ _ _ (c .before .before .before .location .ensures start o i) (c .before .before .if1 .left)
+returns-2 c = λ start o p i j. picked-other start _ _ (c .behind2 .ensures) _ _ _
+    (c .before .before .before .location .ensures start o i) (c .before .before .if1 .left)
     (c .before .location2 .ensures start p j)
 
 pub pick-spec : {M : Type 1} → statement M

@@ -70,7 +70,8 @@ descriptor-loop-returns : (t : ℕ) → descriptor-loop-lts.Need-returns (
   descriptor-loop-below t,
   descriptor-loop.Post,
 ) (descriptor-loop-at t) descriptor-loop.Post
-descriptor-loop-returns t c = c .first .ensures ∙ fault-end (now (c .before .before .before .args .s)) (c .before .before .before .args .other) (c .before .if1 .taken)
+descriptor-loop-returns t c = c .first .ensures ∙ fault-end (now (c .before .before .before .args .s))
+    (c .before .before .before .args .other) (c .before .if1 .taken)
 
 descriptor-loop-descriptor-size-requires :
     (t : ℕ) → descriptor-loop-lts.Need-descriptor-size-requires (
@@ -235,8 +236,16 @@ descriptor-loop-descriptor-loop-requires :
       descriptor-loop-below t,
       descriptor-loop.Post,
     ) (descriptor-loop-at t) descriptor-loop.Post
-descriptor-loop-descriptor-loop-requires t c κs = let s = now (c .before .before .before .before .before .before .before .before .before .args .s) in
-    (rw from (simp length-drop (omega (arith, descriptor-two s, c .before .before .before .before .before .before .descriptor-size .ensures .is))), tt)
+descriptor-loop-descriptor-loop-requires t c κs = let s = now
+    (c .before .before .before .before .before .before .before .before .before .args .s) in (
+      rw from (simp length-drop (omega (
+        arith,
+        descriptor-two s,
+        c .before .before .before .before .before .before
+            .descriptor-size .ensures .is,
+      ))),
+      tt,
+    )
 
 descriptor-loop-returns-3 : (t : ℕ) → descriptor-loop-lts.Need-returns-3 (
   first-reads.Asked,
@@ -254,8 +263,14 @@ descriptor-loop-returns-3 : (t : ℕ) → descriptor-loop-lts.Need-returns-3 (
 ) (descriptor-loop-at t) descriptor-loop.Post
 descriptor-loop-returns-3 t c = let a = c .before .before .before .before .before .before .before .before .before .before .args in
     c .descriptor-loop .ensures
-    ∙ fault-more (now (a .s)) (a .other) _ _ (c .before .before .before .before .before .before .before .descriptor-size .ensures .is) (omega arith)
-    (c .before .either .ensures ∙ rw (c .before .before .before .right-length .ensures, c .before .before .before .before .byte-at2 .ensures .is, c .before .before .before .before .before .byte-at .ensures .is))
+    ∙ fault-more (now (a .s)) (a .other) _ _ (c .before .before .before .before .before .before .before .descriptor-size
+    .ensures .is) (omega arith)
+    (c .before .either .ensures ∙ rw (
+      c .before .before .before .right-length .ensures,
+      c .before .before .before .before
+          .byte-at2 .ensures .is,
+      c .before .before .before .before .before .byte-at .ensures .is,
+    ))
 
 pub +descriptor-loop-spec : {M : Type 1} → statement M
 +descriptor-loop-spec = close μ-descriptor-loop λ t. descriptor-loop-lts.spec (

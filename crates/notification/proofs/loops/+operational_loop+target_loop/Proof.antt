@@ -82,7 +82,12 @@ operational-loop-sub-descriptor-loop : (t : ℕ) → operational-loop-lts.Need-s
   target-loop-below t,
   target-loop.Post,
 ) (operational-loop-at t) operational-loop.Post
-operational-loop-sub-descriptor-loop t c = omega (arith, loop-two (now (c .before .before .before .args .s)), c .before .loop-size .ensures .is)
+operational-loop-sub-descriptor-loop t c = omega (
+  arith,
+  loop-two
+      (now (c .before .before .before .args .s)),
+  c .before .loop-size .ensures .is,
+)
 
 operational-loop-part-descriptor-loop-start :
     (t : ℕ) → operational-loop-lts.Need-part-descriptor-loop-start (
@@ -93,7 +98,12 @@ operational-loop-part-descriptor-loop-start :
       target-loop-below t,
       target-loop.Post,
     ) (operational-loop-at t) operational-loop.Post
-operational-loop-part-descriptor-loop-start t c = omega (arith, loop-two (now (c .before .before .before .args .s)), c .before .loop-size .ensures .is)
+operational-loop-part-descriptor-loop-start t c = omega (
+  arith,
+  loop-two
+      (now (c .before .before .before .args .s)),
+  c .before .loop-size .ensures .is,
+)
 
 operational-loop-part-descriptor-loop-end :
     (t : ℕ) → operational-loop-lts.Need-part-descriptor-loop-end (
@@ -126,7 +136,8 @@ operational-loop-returns-2 : (t : ℕ) → operational-loop-lts.Need-returns-2 (
   target-loop.Post,
 ) (operational-loop-at t) operational-loop.Post
 operational-loop-returns-2 t c = let a = c .before .before .before .before .before .before .args in
-    c .if2 .taken ∙ loops-bad true (now (a .s)) (a .other) _ _ (c .before .before .before .before .loop-size .ensures .is) (omega arith) (c .before .descriptor-loop .ensures) (c .if2 .taken)
+    c .if2 .taken ∙ loops-bad true (now (a .s)) (a .other) _ _ (c .before .before .before .before .loop-size .ensures .is)
+    (omega arith) (c .before .descriptor-loop .ensures) (c .if2 .taken)
 
 operational-loop-sub-target-loop : (t : ℕ) → operational-loop-lts.Need-sub-target-loop (
   loop-size-reads.Asked,
@@ -167,7 +178,16 @@ operational-loop-target-loop-requires : (t : ℕ) → operational-loop-lts.Need-
   target-loop-below t,
   target-loop.Post,
 ) (operational-loop-at t) operational-loop.Post
-operational-loop-target-loop-requires t c κs = (rw from (simp length-drop (omega (arith, loop-two (now (c .before .before .before .before .before .before .before .args .s)), c .before .before .before .before .before .loop-size .ensures .is))), tt)
+operational-loop-target-loop-requires t c κs = (
+  rw from (simp length-drop
+      (omega (
+        arith,
+        loop-two (now (c .before .before .before .before .before .before .before .args .s)),
+        c .before .before
+            .before .before .before .loop-size .ensures .is,
+      ))),
+  tt,
+)
 
 operational-loop-returns-3 : (t : ℕ) → operational-loop-lts.Need-returns-3 (
   loop-size-reads.Asked,
@@ -179,7 +199,8 @@ operational-loop-returns-3 : (t : ℕ) → operational-loop-lts.Need-returns-3 (
 ) (operational-loop-at t) operational-loop.Post
 operational-loop-returns-3 t c = let a = c .before .before .before .before .before .before .before .before .args in
     c .target-loop .ensures
-    ∙ loops-on true (now (a .s)) (a .other) _ _ (c .before .before .before .before .before .before .loop-size .ensures .is) (omega arith) (c .before .before .before .descriptor-loop .ensures) (c .before .before .if2 .left)
+    ∙ loops-on true (now (a .s)) (a .other) _ _ (c .before .before .before .before .before .before .loop-size .ensures .is)
+    (omega arith) (c .before .before .before .descriptor-loop .ensures) (c .before .before .if2 .left)
 
 target-loop-first-requires : (t : ℕ) → target-loop-lts.Need-first-requires (
   first-reads.Asked,
@@ -203,7 +224,8 @@ target-loop-returns : (t : ℕ) → target-loop-lts.Need-returns (
   operational-loop-below t,
   operational-loop.Post,
 ) (target-loop-at t) target-loop.Post
-target-loop-returns t c = c .first .ensures ∙ loops-end (now (c .before .before .before .args .s)) (c .before .before .before .args .other) (c .before .if1 .taken)
+target-loop-returns t c = c .first .ensures ∙ loops-end (now (c .before .before .before .args .s))
+    (c .before .before .before .args .other) (c .before .if1 .taken)
 
 target-loop-loop-size-requires : (t : ℕ) → target-loop-lts.Need-loop-size-requires (
   first-reads.Asked,
@@ -240,7 +262,12 @@ target-loop-sub-descriptor-loop : (t : ℕ) → target-loop-lts.Need-sub-descrip
   operational-loop-below t,
   operational-loop.Post,
 ) (target-loop-at t) target-loop.Post
-target-loop-sub-descriptor-loop t c = omega (arith, loop-two (now (c .before .before .before .before .args .s)), c .before .loop-size .ensures .is)
+target-loop-sub-descriptor-loop t c = omega (
+  arith,
+  loop-two
+      (now (c .before .before .before .before .args .s)),
+  c .before .loop-size .ensures .is,
+)
 
 target-loop-part-descriptor-loop-start : (t : ℕ) → target-loop-lts.Need-part-descriptor-loop-start (
   first-reads.Asked,
@@ -252,7 +279,12 @@ target-loop-part-descriptor-loop-start : (t : ℕ) → target-loop-lts.Need-part
   operational-loop-below t,
   operational-loop.Post,
 ) (target-loop-at t) target-loop.Post
-target-loop-part-descriptor-loop-start t c = omega (arith, loop-two (now (c .before .before .before .before .args .s)), c .before .loop-size .ensures .is)
+target-loop-part-descriptor-loop-start t c = omega (
+  arith,
+  loop-two
+      (now (c .before .before .before .before .args .s)),
+  c .before .loop-size .ensures .is,
+)
 
 target-loop-part-descriptor-loop-end : (t : ℕ) → target-loop-lts.Need-part-descriptor-loop-end (
   first-reads.Asked,
@@ -289,7 +321,8 @@ target-loop-returns-3 : (t : ℕ) → target-loop-lts.Need-returns-3 (
   operational-loop.Post,
 ) (target-loop-at t) target-loop.Post
 target-loop-returns-3 t c = let a = c .before .before .before .before .before .before .before .args in
-    c .if3 .taken ∙ loops-bad false (now (a .s)) (a .other) _ _ (c .before .before .before .before .loop-size .ensures .is) (omega arith) (c .before .descriptor-loop .ensures) (c .if3 .taken)
+    c .if3 .taken ∙ loops-bad false (now (a .s)) (a .other) _ _ (c .before .before .before .before .loop-size .ensures .is)
+    (omega arith) (c .before .descriptor-loop .ensures) (c .if3 .taken)
 
 target-loop-sub-operational-loop : (t : ℕ) → target-loop-lts.Need-sub-operational-loop (
   first-reads.Asked,
@@ -338,7 +371,16 @@ target-loop-operational-loop-requires : (t : ℕ) → target-loop-lts.Need-opera
   operational-loop-below t,
   operational-loop.Post,
 ) (target-loop-at t) target-loop.Post
-target-loop-operational-loop-requires t c κs = (rw from (simp length-drop (omega (arith, loop-two (now (c .before .before .before .before .before .before .before .before .args .s)), c .before .before .before .before .before .loop-size .ensures .is))), tt)
+target-loop-operational-loop-requires t c κs = (
+  rw from (simp length-drop
+      (omega (
+        arith,
+        loop-two (now (c .before .before .before .before .before .before .before .before .args .s)),
+        c .before
+            .before .before .before .before .loop-size .ensures .is,
+      ))),
+  tt,
+)
 
 target-loop-returns-4 : (t : ℕ) → target-loop-lts.Need-returns-4 (
   first-reads.Asked,
@@ -352,7 +394,8 @@ target-loop-returns-4 : (t : ℕ) → target-loop-lts.Need-returns-4 (
 ) (target-loop-at t) target-loop.Post
 target-loop-returns-4 t c = let a = c .before .before .before .before .before .before .before .before .before .args in
     c .operational-loop .ensures
-    ∙ loops-on false (now (a .s)) (a .other) _ _ (c .before .before .before .before .before .before .loop-size .ensures .is) (omega arith) (c .before .before .before .descriptor-loop .ensures) (c .before .before .if3 .left)
+    ∙ loops-on false (now (a .s)) (a .other) _ _ (c .before .before .before .before .before .before .loop-size .ensures .is)
+    (omega arith) (c .before .before .before .descriptor-loop .ensures) (c .before .before .if3 .left)
 
 pub +operational-loop+target-loop-spec : {M : Type 1} → statement M
 +operational-loop+target-loop-spec =

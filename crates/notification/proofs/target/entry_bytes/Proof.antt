@@ -15,7 +15,8 @@ behind-requires c κs = search needs
 
 returns : tie.Need-returns
 unfolding entryBytes
-returns c = yes-pick _ _ (eq-eqb _ 0x07 (was (c .before .before .byte-at .ensures .is) (c .before .if1 .taken))) (c .behind .ensures .bytes)
+returns c = yes-pick _ _ (eq-eqb _ 0x07 (was (c .before .before .byte-at .ensures .is) (c .before .if1 .taken)))
+    (c .behind .ensures .bytes)
 
 behind-requires-2 : tie.Need-behind-requires-2
 behind-requires-2 c κs = search needs

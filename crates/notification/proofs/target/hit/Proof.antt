@@ -18,14 +18,16 @@ same-under-requires c κs = search needs
 
 returns : tie.Need-returns
 unfolding hit
-returns c = yes-pick _ _ (eq-eqb _ 0x07 (was (c .before .before .before .byte-at .ensures .is) (c .before .before .if1 .taken))) (c .same-under .ensures ∙ rw (c .before .behind .ensures .bytes))
+returns c = yes-pick _ _ (eq-eqb _ 0x07 (was (c .before .before .before .byte-at .ensures .is) (c .before .before .if1 .taken)))
+    (c .same-under .ensures ∙ rw (c .before .behind .ensures .bytes))
 
 in-range-requires : tie.Need-in-range-requires
 in-range-requires c κs = search needs
 
 returns-2 : tie.Need-returns-2
 unfolding hit
-returns-2 c = not-pick _ _ (ne-eqb _ 0x07 (λ z. c .before .if1 .left (c .before .before .byte-at .ensures .is ∙ z))) (c .in-range .ensures)
+returns-2 c = not-pick _ _ (ne-eqb _ 0x07 (λ z. c .before .if1 .left (c .before .before .byte-at .ensures .is ∙ z)))
+    (c .in-range .ensures)
 
 pub hit-spec : {M : Type 1} → statement M
 hit-spec =

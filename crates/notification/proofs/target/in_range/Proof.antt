@@ -20,7 +20,12 @@ both-requires c κs = search needs
 returns : tie.Need-returns
 unfolding inRange
 returns c = c .both .ensures
-    ∙ rw (c .before .address-at2 .ensures .is, c .before .before .address-at .ensures .is, c .before .before .before .address-number .ensures)
+    ∙ rw (
+      c .before .address-at2 .ensures .is,
+      c .before .before .address-at .ensures .is,
+      c .before .before .before
+          .address-number .ensures,
+    )
 
 pub in-range-spec : {M : Type 1} → statement M
 in-range-spec =
