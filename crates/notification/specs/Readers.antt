@@ -1,17 +1,18 @@
 -- What the readers of parts of a section give, each by the definitions of notification_rules.
-use Prim.Native.Nat.{ℕ, _+_, _≤_}
+use Prim.Native.Nat.{ℕ, _+_, _-_, _≤_}
 use mathlib.Core.Path.{_≡_}
 use mathlib.Core.Bool.{Bool, true, false, not}
-use mathlib.Core.List.{List, []}
+use mathlib.Core.List.{List, [], _∷_}
 use lib.ListN.{length, take, drop}
 use lib.Dec.{ltb}
 use denote.Ref.{RefT, now}
 use Rattle.wire.specs.Choice.{pick, both, either, first}
 use Rattle.rules.specs.declared.Address.{Address}
-use Rattle.notification_rules.specs.Cut.{Size, Cut, cutOf, isNil, every, odd, part, placed, Is}
-use Rattle.notification_rules.specs.Loop.{loopSize, content, filled, Pair, pairsOf, descriptorPieces, descriptorsOf}
+use Rattle.notification_rules.specs.declared.Notice.the-variants.{Found}
+use Rattle.notification_rules.specs.Cut.{Size, Cut, cutOf, isNil, every, odd, Part, part, placed, Is}
+use Rattle.notification_rules.specs.Loop.{loopSize, descriptorSize, platformPlace, content, filled, Pair, pairsOf, descriptorPieces, descriptorsOf}
 use Rattle.notification_rules.specs.Target.{isCover, coverOf, Location, nowhere, at, located, isLocation, orElse, Choice, none, one, firstPair}
-use Rattle.notification_rules.specs.Notice.{known}
+use Rattle.notification_rules.specs.Notice.{known, found}
 
 -- 32 where descriptors do not fill a loop, else 33 where a known one has another length, here or before, else 0
 unfoldable pub descriptorFault : List ℕ → Bool → ℕ
@@ -42,7 +43,21 @@ pub record Holds (s : RefT (List ℕ)) (o : ℕ) (r : RefT (List ℕ)) : Type 0 
   pub is : Is (s .ptr) (part (o + 2) (content (loopAt (now s) o))) r
   pub size : 2 + length (now r) ≡ loopSize (drop o (now s))
 
--- ---- the located descriptor of a loop, tag and length with it, or nothing
+-- ---- the first 0x13 of a loop
+-- the descriptor at the front, or nowhere where nothing stands
+unfoldable pub front : ℕ → List ℕ → Location
+front o [] = nowhere
+front o (x ∷ b) = at (part o (take (descriptorSize (x ∷ b)) (x ∷ b)))
+
+-- r is the loop s from its first 0x13 on, or nothing, wherever the loop stands
+pub record Reaches (s r : RefT (List ℕ)) : Type 0 where
+  pub passed : ℕ
+  pub inside : passed ≤ length (now s)
+  pub is : Is (s .ptr) (part passed (drop passed (now s))) r
+  pub first : (o : ℕ) → located (placed o (descriptorPieces (now s))) ≡ front (passed + o) (now r)
+  pub whole : (length (now r) ≡ 0 → ⊥) → descriptorSize (now r) ≤ length (now r)
+
+-- the located descriptor of a loop, tag and length with it, or nothing
 abbrev pub Located : ℕ × ℕ → Location → RefT (List ℕ) → Type 0
 Located start nowhere r = now r ≡ []
 Located start (at d) r = Is start d r × (2 ≤ length (now r))
@@ -57,11 +72,19 @@ abbrev pub Picked : ℕ × ℕ → Location → RefT (List ℕ) → Type 0
 Picked start nowhere r = now r ≡ []
 Picked start (at d) r = Is start (part (d .place + 2) (drop 2 (d .bytes))) r
 
--- r is the body of the first 0x13 of the one loop, else of the other, wherever in a section the two stand
+-- the first 0x13 of the one loop, else of the other, with the places of what they hold
+abbrev pub pickIn : List ℕ → ℕ → List ℕ → ℕ → Location
+pickIn s o t p = orElse (located (placed o (descriptorPieces s))) (located (placed p (descriptorPieces t)))
+
+-- r is its body, wherever in a section the two stand
 abbrev pub Picks : RefT (List ℕ) → RefT (List ℕ) → RefT (List ℕ) → Type 0
 Picks s t r =
-    (start : ℕ × ℕ) → (o p : ℕ) → Is start (part o (now s)) s → Is start (part p (now t)) t
-    → Picked start (orElse (located (placed o (descriptorPieces (now s)))) (located (placed p (descriptorPieces (now t))))) r
+    (start : ℕ × ℕ) → (o p : ℕ) → Is start (part o (now s)) s → Is start (part p (now t)) t → Picked start (pickIn (now s) o (now t) p) r
+
+-- r is the place of its body, where there is one and the two end at these places
+abbrev pub Places : List ℕ → ℕ → List ℕ → ℕ → ℕ → Type 0
+Places s end t last r =
+    (o p : ℕ) → o + length s ≡ end → p + length t ≡ last → isLocation (pickIn s o t p) ≡ true → found (pickIn s o t p) ≡ Found r
 
 -- ---- pairs from a place on
 -- whole pairs stand from here on to the end
@@ -93,3 +116,19 @@ choiceAt s o = pick (ltb o (length s)) (one (pairAt s o)) none
 pub record Chosen (device : Address) (general : Bool) (s : List ℕ) (o r : ℕ) : Type 0 where
   pub first : choiceAt s r ≡ firstPair (answersBy device general) (pairsFrom s o)
   pub turns : Turns s r
+
+-- ---- what stands before the CRC_32 of a section that is not refused
+abbrev pub platformAt : List ℕ → Part
+platformAt h = part platformPlace (loopAt h platformPlace)
+
+abbrev pub pairsPlace : List ℕ → ℕ
+pairsPlace h = platformPlace + loopSize (drop platformPlace h)
+
+-- a platform loop, and whole pairs up to the end
+pub record Looped (h : List ℕ) : Type 0 where
+  pub platform : pairsPlace h ≤ length h
+  pub pairs : Turns h (pairsPlace h)
+
+-- r is the place of the first pair that answers, or the end
+abbrev pub Answering : Address → List ℕ → ℕ → Type 0
+Answering device h r = Chosen device (isLocation (located (descriptorsOf (platformAt h)))) h (pairsPlace h) r

@@ -5,10 +5,12 @@ mod target;
 
 use location::location;
 use location::pick;
+use location::pick_place;
 use loops::behind;
 use loops::descriptor_size;
 use loops::loop_size;
 use loops::operational_loop;
+use notification_rules::Notice;
 use rules::Address;
 use rules::Form;
 use target::entry_bytes;
@@ -23,8 +25,8 @@ ghost use lib.ListN.{length, drop};
 ghost use Rattle.wire.specs.Choice.{firstOf};
 ghost use Rattle.notification_rules.specs.Cut.{part, Is};
 ghost use Rattle.notification_rules.specs.Loop.{loopSize, checked};
-ghost use Rattle.notification_rules.specs.Notice.{notificationForm, otherAction, wrongHash, platformLines, refusal, Answered};
-ghost use Rattle.notification.specs.Readers.{Holds, Turns, Chosen};
+ghost use Rattle.notification_rules.specs.Notice.{notificationForm, otherAction, wrongHash, platformLines, refusal, noticeOf, numberOf, placeOf, Answered};
+ghost use Rattle.notification.specs.Readers.{Holds, Turns, Chosen, Looped, Answering};
 
 fn notification_form() -> Form
     ensures { λ r. ⌜ r ≡ notificationForm ⌝ }
@@ -125,6 +127,16 @@ fn search(device: Address, s: &[u8], from: usize, general: bool) -> usize
     at
 }
 
+// The place of the first pair that answers the device, or the end.
+fn answering(device: Address, head: &[u8]) -> usize
+    requires { ⌜ Looped (now head) ⌝ }
+    ensures { λ r. ⌜ Answering device (now (head .entry)) r ⌝ }
+{
+    let platform = loop_at(head, 12);
+    let general = location(platform).len() != 0;
+    search(device, head, 14 + platform.len(), general)
+}
+
 // What the device finds: the number goes through `answer`, and with 3 the nine bytes are handed back, which are a part of the section.
 pub fn read<'a>(device: Address, s: &'a [u8], answer: &mut u8) -> &'a [u8]
     ensures { λ r. ⌜ Answered device (s .entry) (now (answer .exit)) r ⌝ }
@@ -135,14 +147,56 @@ pub fn read<'a>(device: Address, s: &'a [u8], answer: &mut u8) -> &'a [u8]
         return &s[..0];
     }
     let head = checked(s);
-    let platform = loop_at(head, 12);
-    let general = location(platform).len() != 0;
-    let at = search(device, head, 14 + platform.len(), general);
+    let at = answering(device, head);
     if at == head.len() {
         *answer = 4;
         return &s[..0];
     }
     *answer = 3;
+    let platform = loop_at(head, 12);
     let target = loop_at(head, at);
     pick(loop_at(head, at + 2 + target.len()), platform)
+}
+
+// The same, with the place of the nine bytes: for callers to whom no part can be handed back.
+pub fn notice(device: Address, s: &[u8]) -> Notice
+    ensures { λ r. ⌜ r ≡ noticeOf device (now (s .entry)) ⌝ }
+{
+    let number = refusal(s);
+    if number != 0 {
+        return Notice::Refused(number);
+    }
+    let head = checked(s);
+    let at = answering(device, head);
+    if at == head.len() {
+        return Notice::Nobody;
+    }
+    let platform = loop_at(head, 12);
+    let target = loop_at(head, at);
+    let operational = loop_at(head, at + 2 + target.len());
+    let end = at + 4 + target.len() + operational.len();
+    let begin = pick_place(operational, end, platform, 14 + platform.len());
+    Notice::Found(begin)
+}
+
+// The paper's number of an answer.
+pub fn number_of(notice: Notice) -> u8
+    ensures { λ r. ⌜ r ≡ numberOf notice ⌝ }
+{
+    match notice {
+        Notice::Found(_) => 3,
+        Notice::Nobody => 4,
+        Notice::Refused(number) => number,
+    }
+}
+
+// The place that an answer carries.
+pub fn place_of(notice: Notice) -> usize
+    ensures { λ r. ⌜ r ≡ placeOf notice ⌝ }
+{
+    match notice {
+        Notice::Found(place) => place,
+        Notice::Nobody => 0,
+        Notice::Refused(_) => 0,
+    }
 }

@@ -82,6 +82,12 @@ numberOf (Found p) = 3
 numberOf Nobody = 4
 numberOf (Refused n) = n
 
+-- the place of the nine bytes, and 0 for all but 3
+abbrev pub placeOf : Notice → ℕ
+placeOf (Found p) = p
+placeOf Nobody = 0
+placeOf (Refused n) = 0
+
 abbrev pub partOf : List ℕ → Notice → Part
 partOf s (Found p) = part p (take 9 (drop p s))
 partOf s Nobody = part 0 []
