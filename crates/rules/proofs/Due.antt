@@ -21,10 +21,10 @@ use Rattle.rules.specs.Step.{Outcome, ours, outcome, refuse, refuseFirst
 use Rattle.rules.specs.Row.{Event, section, Held, nothing, datagram, handedBy, elsewhere, joined}
 use Rattle.rules.specs.Row.{Receivable, WholeRun, Ready}
 use Rattle.rules.proofs.Sound.{both-true}
-use Rattle.rules.proofs.Runs.{EndsIn, Next, next, only}
+use Rattle.rules.proofs.Runs.{EndsIn, Next, next, Same, only, whole-ends}
 use Rattle.rules.proofs.Track.{key-last, in-order, room-bounds, room-same, laid-length, nowhere}
 use Rattle.rules.proofs.Track.{Gathered, Track, within, good-state, follows, placed, grown}
-use Rattle.rules.proofs.Finish.{handed, held, Carries, finish-held, finish-hands}
+use Rattle.rules.proofs.Finish.{handed, held, carried, ready, finish-held, finish-hands}
 
 pub no-datagram : {n : ℕ} {d : List ℕ} → nothing ≡ datagram n d → ⊥
 no-datagram p = let z : _≡_ {A = ℕ} 0 1 = cc in omega arith
@@ -87,15 +87,18 @@ module _ (c : Settings) (b : List ℕ) where
   due-holds size (stored size′ g part) =
       record { size = size′; track = record { gathered = g; some = omega arith; partial = omega arith } }
 
-  ready-run : {row : List Event} {n : ℕ} {d : List ℕ} (w : Ready c b row n d) → EndsIn c b row (w .run .key) (w .sections)
-  ready-run w = record { run = w .run .run; there = w .there }
+  -- the run that is ready is the run that is gathered
+  ready-run : {row : List Event} {now : List ℕ} {m n f : ℕ} {d : List ℕ} {κ : Key} (w : Ready c b row n d)
+      → (g : Gathered c b row now m f κ) → 0 < m → Same c b (w .run .key) κ (w .sections) (g .sections)
+  ready-run w g some =
+      only c b (whole-ends c b (w .run) (w .there)) (g .run) (omega (arith, w .run .whole)) (omega (arith, g .count))
 
   pub due-hands : {past : List Event} {now s : List ℕ} {o : Outcome} → Due past now s o → (n : ℕ) (d : List ℕ)
       → (handed o ≡ datagram n d) ↔ Ready c b (past ++ (section s ∷ [])) n d
   unfolding handedBy
   due-hands (refused never-ends) n d = (
     λ p. absurd (no-datagram p),
-    λ w. absurd (never-ends (w .run .key) (w .sections) (ready-run w) (omega (arith, w .run .whole))),
+    λ w. absurd (never-ends (w .run .key) (w .sections) (whole-ends c b (w .run) (w .there)) (omega (arith, w .run .whole))),
   )
   due-hands {past} {now} {s} (finished {f = f} {after = after} size g last) n d =
       let fits : f ≤ length after = omega (arith, g .filled, g .run .run .fits, room-bounds b .1) in
@@ -103,17 +106,15 @@ module _ (c : Settings) (b : List ℕ) where
       let limit : keyOf s .last + 1 ≤ c .limit = within c b (g .run) (omega (arith, g .count)) in
       let whole : WholeRun c b (g .sections) =
       record { key = keyOf s; run = g .run .run; whole = omega (arith, g .count); within = omega (arith, g .count) } in (
-        λ p.
-            let q : Carries (joined (g .sections)) n d = hands .0 p in
-            record { sections = g .sections; run = whole; there = g .run .there; bytes = q .bytes; size = q .size },
+        λ p. ready whole (g .run .there) (hands .0 p),
         λ w.
-            let same = only c b (ready-run w) (g .run) (omega (arith, w .run .whole)) (omega (arith, g .count)) in
-            hands .1 (record { bytes = rw (same .sections) at (w .bytes); size = w .size }),
+            let same = ready-run w g (omega arith) in
+            hands .1 (rw (same .sections) at (carried w)),
       )
   due-hands (stored size g part) n d = (
     λ p. absurd (no-datagram p),
     λ w.
-        let same = only c b (ready-run w) (g .run) (omega (arith, w .run .whole)) (omega (arith, g .count)) in
+        let same = ready-run w g (omega arith) in
         absurd (omega (arith, w .run .whole, ap length (same .sections), ap (λ (κ : Key). κ .last) (same .key), g .count)),
   )
 
@@ -154,6 +155,7 @@ module _ (c : Settings) (b : List ℕ) where
         let f-is : f ≡ length (joined (l .init)) = cc in
         omega (arith, room-same (h .buffer) b (i .size), l .fits)))
 
+    -- test by test, as the step has them
     pub due : goodSettings c ≡ true → elsewhere c (section s) ≡ false → Here (stepOf c (h .state) s (h .buffer))
     unfolding check bar stepOf refuseFirst
     due good kept =

@@ -11,8 +11,8 @@ use Rattle.wire.proofs.Choice.{never}
 use Rattle.rules.specs.declared.Settings.{Settings}
 use Rattle.rules.specs.Step.{gapOf, goodSettings, goodState}
 use Rattle.rules.specs.Row.{Event, section, gap, Held, fresh, next, after, nothing, datagram, handedBy, handedOver}
-use Rattle.rules.specs.Row.{elsewhere, strike, Ends, Ready, AtEvent, Once, RowTheorem}
-use Rattle.rules.proofs.Runs.{ends-size, no-gap, only, apart}
+use Rattle.rules.specs.Row.{elsewhere, strike, Ready, AtEvent, Once, RowTheorem}
+use Rattle.rules.proofs.Runs.{ends-size, no-gap, whole-ends, only, apart}
 use Rattle.rules.proofs.Track.{good-state}
 use Rattle.rules.proofs.Due.{no-datagram, passes, Holds, due-holds, due-hands, due}
 
@@ -102,8 +102,7 @@ module _ (c : Settings) (b : List ℕ) (good : goodSettings c ≡ true) where
         struck = struck-hands c h e good (good-kept r);
         exactly = λ kept n d. rw (strike-kept c r e kept) (kept-hands (strike c r) h e (from-fresh r) kept n d);
         only = λ xs ys u v x y.
-            let same =
-            only c b (record { run = u .run; there = x }) (record { run = v .run; there = y }) (omega (arith, u .whole)) (omega (arith, v .whole)) in
+            let same = only c b (whole-ends c b u x) (whole-ends c b v y) (omega (arith, u .whole)) (omega (arith, v .whole)) in
             same .sections;
       }
 

@@ -2,7 +2,7 @@
 use Prim.Native.Nat.{ℕ, suc, _+_, _*_, _-_, _≤_, _<_}
 use native.Mathlib.Decide.{decLe, decLt}
 use native.Mathlib.Omega.{arith}
-use mathlib.Core.Path.{_≡_, refl, ap, sym, _∙_}
+use mathlib.Core.Path.{_≡_, ap, sym, _∙_}
 use mathlib.Core.List.{List, [], _∷_, _++_, map, append-assoc, append-nil}
 use lib.ListN.{length, getD, take, length-append, length-map, List·getD-append, List·getD-map}
 use lib.Seq.{ext-getD, getD-append-add, getD-append-seam}
@@ -66,6 +66,9 @@ module _ (c : Settings) (b : List ℕ) where
     pub run : Run c b κ xs
     pub there : Ends row xs
 
+  abbrev pub whole-ends : {row : List Event} {xs : List (List ℕ)} (u : WholeRun c b xs) → Ends row xs → EndsIn row (u .key) xs
+  whole-ends u e = record { run = u .run; there = e }
+
   -- ---- one section more
   pub none : (row : List Event) (κ : Key) → EndsIn row κ []
   unfolding joined
@@ -110,7 +113,8 @@ module _ (c : Settings) (b : List ℕ) where
       } in
       record {
         init = init;
-        before = record { run = run; there = record { front = e .there .front; split = first-parts past before _ _ split sizes } };
+        before =
+            record { run = run; there = record { front = e .there .front; split = first-parts past before _ _ split sizes } };
         piece = rw (getD-append-seam init s [] []) at (e .run .each (length init) (omega (arith, length-more init s)));
         fits = rw (joined-length init s) at (e .run .fits);
       }
@@ -127,8 +131,8 @@ module _ (c : Settings) (b : List ℕ) where
   -- ---- runs that share a section
   -- a run in a row and one in a longer row that begins before the first has ended: they share the first's last section, so they
   -- begin at one place and agree
-  shared : {row : List Event} (later : List Event) {κ μ : Key} {xs ys : List (List ℕ)} (x : EndsIn row κ xs) (y : EndsIn (row ++ later) μ ys)
-      → 0 < length xs → length (y .there .front) < length row
+  shared : {row : List Event} (later : List Event) {κ μ : Key} {xs ys : List (List ℕ)} (x : EndsIn row κ xs)
+      (y : EndsIn (row ++ later) μ ys) → 0 < length xs → length (y .there .front) < length row
       → (length (x .there .front) ≡ length (y .there .front)) × (κ ≡ μ)
   shared {row} later {κ} {μ} {xs} {ys} x y some overlap =
       let n : ℕ = length xs - 1 in
@@ -156,20 +160,21 @@ module _ (c : Settings) (b : List ℕ) where
   only {row} {κ} {μ} {xs} {ys} x y some some′ =
       let y′ : Ends (row ++ []) ys = record { front = y .there .front; split = append-nil row ∙ y .there .split } in
       let s = shared [] x (record { run = y .run; there = y′ }) some (omega (arith, ends-size (y .there))) in
+      let sizes : length xs ≡ length ys = omega (arith, s .0, ends-size (x .there), ends-size (y .there)) in
       record {
-        sections = ext-getD [] xs ys (omega (arith, s .0, ends-size (x .there), ends-size (y .there))) (λ j h. cc (s .0, ends-at (x .there) j, ends-at (y .there) j));
+        sections = ext-getD [] xs ys sizes (λ j h. cc (s .0, ends-at (x .there) j, ends-at (y .there) j));
         key = s .1;
       }
 
   -- of two whole runs in one row, the later begins behind the end of the earlier
   pub apart : (row later : List Event) {xs ys : List (List ℕ)} → WholeRun c b xs → WholeRun c b ys → Ends row xs
       → (y : Ends (row ++ later) ys) → 0 < length later → length row ≤ length (y .front)
-  apart row later {xs} {ys} u v x y more = go (decLe (length row) (length (y .front)))
+  apart row later {xs} {ys} u v x y longer = go (decLe (length row) (length (y .front)))
     where
       go : Dec (length row ≤ length (y .front)) → length row ≤ length (y .front)
       go (yes h) = h
       go (no h) =
           let s =
-          shared later (record { run = u .run; there = x }) (record { run = v .run; there = y }) (omega (arith, u .whole)) (omega arith) in
+          shared later (whole-ends u x) (whole-ends v y) (omega (arith, u .whole)) (omega arith) in
           let last : u .key .last ≡ v .key .last = ap (λ (κ : Key). κ .last) (s .1) in
           absurd (omega (arith, s .0, ends-size x, ends-size y, length-append row later, u .whole, v .whole))

@@ -52,15 +52,15 @@ pub room-same : (a b : List ℕ) → length a ≡ length b → room a ≡ room b
 unfolding room
 room-same a b p = rw p
 
-pub laid-length : (f : ℕ) (s b : List ℕ) → f + length (payload s) ≤ length b → length (laid f s b) ≡ length b
-unfolding laid
-laid-length f s b h = length-paste b f (payload s) (length (payload s)) h (le-refl _)
-
 laid-take : (f : ℕ) (s b : List ℕ) → f + length (payload s) ≤ length b
     → take (f + length (payload s)) (laid f s b) ≡ take f b ++ payload s
 unfolding laid
 laid-take f s b h =
     take-paste b f (payload s) (length (payload s)) (omega arith) (le-refl _) ∙ rw (take-length (payload s))
+
+pub laid-length : (f : ℕ) (s b : List ℕ) → f + length (payload s) ≤ length b → length (laid f s b) ≡ length b
+unfolding laid
+laid-length f s b h = length-paste b f (payload s) (length (payload s)) h (le-refl _)
 
 pub nowhere : {f : ℕ} → Nowhere ≡ From f → ⊥
 nowhere p = let z : _≡_ {A = ℕ} 0 1 = cc in omega arith
