@@ -109,8 +109,8 @@ pub extern "C" fn fossknut_send(
     out: &mut [u8],
     length: &mut usize,
 ) -> u8
-    ensures { λ r. ⌜ Gives (sentOf (settingsOf mac1 mac2 mac3 mac4 mac5 mac6 range limit) (flagOf flag) size (now (unit .entry)) (now (out .entry)))
-        r (now (length .exit)) (now (out .exit)) ⌝ }
+    ensures { λ r. ⌜ Gives (sentOf (settingsOf mac1 mac2 mac3 mac4 mac5 mac6 range limit) (flagOf flag) size
+        (now (unit .entry)) (now (out .entry))) r (now (length .exit)) (now (out .exit)) ⌝ }
 {
     let settings = settings_of(mac1, mac2, mac3, mac4, mac5, mac6, range, limit);
     let sending = sender::send(settings, flag != 0, size, unit, out);
@@ -134,8 +134,8 @@ pub extern "C" fn fossknut_send_by_default(
     out: &mut [u8],
     length: &mut usize,
 ) -> u8
-    ensures { λ r. ⌜ Gives (sentOf (settingsOf mac1 mac2 mac3 mac4 mac5 mac6 range limit) (flagOf flag) defaultPiece (now (unit .entry)) (now (out .entry)))
-        r (now (length .exit)) (now (out .exit)) ⌝ }
+    ensures { λ r. ⌜ Gives (sentOf (settingsOf mac1 mac2 mac3 mac4 mac5 mac6 range limit) (flagOf flag) defaultPiece
+        (now (unit .entry)) (now (out .entry))) r (now (length .exit)) (now (out .exit)) ⌝ }
 {
     let settings = settings_of(mac1, mac2, mac3, mac4, mac5, mac6, range, limit);
     let sending = sender::send_by_default(settings, flag != 0, unit, out);

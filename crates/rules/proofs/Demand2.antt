@@ -1,16 +1,15 @@
 -- The sender's sections are a whole run, offered one by one; the row theory says what is due at each of them.
-use Prim.Native.Nat.{ℕ, zero, suc, _+_, _*_, _-_, _≤_, _<_}
+use Prim.Native.Nat.{ℕ, zero, suc, _+_, _-_, _≤_, _<_}
 use native.Mathlib.Omega.{arith}
 use native.Mathlib.Numerals.{add-one}
 use mathlib.Core.Path.{_≡_, refl, ap, ap₂, sym, _∙_}
 use mathlib.Core.Bool.{Bool, true, false}
 use mathlib.Core.List.{List, [], _∷_, _++_, map}
 use lib.ListN.{length, take, length-take}
-use lib.Dec.{eqb, ltb}
+use lib.Dec.{ltb}
 use borrow.Author.Tests.{eq-eqb, le-ltb}
-use Rattle.wire.specs.Bytes.{numberAt, over}
+use Rattle.wire.specs.Bytes.{numberAt}
 use Rattle.wire.specs.Choice.{both, either, first, firstOf}
-use Rattle.wire.proofs.Choice.{never}
 use Rattle.rules.specs.declared.Settings.{Settings}
 use Rattle.rules.specs.declared.Key.{Key}
 use Rattle.rules.specs.declared.Address.{Address}
@@ -20,14 +19,14 @@ use Rattle.rules.specs.Cut.{offers}
 use Rattle.rules.specs.Demand2.{answerAt, Arrives, RoundTrip}
 use Rattle.rules.specs.Row.{after, elsewhere, Event, fresh, Held, joined, next, Piece, Receivable, section}
 use Rattle.rules.specs.Section.{header, sealed, sectionLength, sectionOf}
-use Rattle.rules.specs.Send.{piece, sectionAt, sectionCount, sections, sectionsTo, sentOf, written}
+use Rattle.rules.specs.Send.{piece, sectionAt, sectionCount, sections, sectionsTo, sentOf}
 use Rattle.rules.specs.Step.{bar, barLines, finish, keyOf, Outcome, ours, overLimit, payloadScrambled, room, stepOf}
 use Rattle.rules.proofs.Cut.{Framed, offers-sections}
 use Rattle.rules.proofs.Due.{Due, refused, finished, stored, due, due-holds, Holds}
 use Rattle.rules.proofs.Lists.{map-more}
 use Rattle.rules.proofs.Runs.{EndsIn, ends-size, only}
-use Rattle.rules.proofs.Send.{Accepted, count-some, Given, given, given-bytes, joined-to, piece-small, pieces-all}
-use Rattle.rules.proofs.Send.{section-size, section-written, sections-at, sections-length, sections-take}
+use Rattle.rules.proofs.Send.{Accepted, count-some, Given, given, given-bytes, joined-to, piece-small}
+use Rattle.rules.proofs.Send.{section-size, section-written, sections-at, sections-joined, sections-length, sections-take}
 
 -- ---- each section is receivable
 either-right : (t : Bool) → either t true ≡ true
@@ -151,15 +150,14 @@ module _ (c : Settings) (flag : Bool) (n : ℕ) (u out : List ℕ) (a : Accepted
     some-to k = omega (arith, sections-length c flag n u (suc k))
 
     outcomes : (k : ℕ) → k < count → {now : List ℕ} {o : Outcome} → Due c b (row k) now (at k) o → Outcomes k o
-    unfolding finish
+    unfolding finish sections
     outcomes k h (refused never-ends) = absurd (never-ends key (to (suc k)) (run-next k h) (some-to k))
     outcomes k h (finished {f = f} {after = after} size g last) =
         let p : Piece c key k (at k) = agreed k h in
         let is : suc k ≡ count = omega (arith, p .numbered, ap (λ (κ : Key). κ .last) (p .agrees)) in
         let same = only c b (g .run) (run-next k h) (omega (arith, g .count)) (some-to k) in
         let all : joined (g .sections) ≡ u =
-        ap joined (same .sections) ∙ joined-to c flag n u (a .some) (a .most) (suc k) h
-        ∙ ap (λ (m : ℕ). take (m * n) u) is ∙ pieces-all n u (a .some) in
+        ap joined (same .sections ∙ ap to is) ∙ sections-joined c flag n u (a .some) (a .most) in
         let size : f ≡ length u = sym (g .filled) ∙ ap length all in
         record {
           stored = λ l. absurd (omega arith);

@@ -1,14 +1,13 @@
 -- Pieces of n bytes are cut off the front until nothing is left, so the first k of them are the unit's first k * n bytes.
 use Prim.Native.Nat.{ℕ, zero, suc, _+_, _*_, _-_, _/_, _≤_, _<_, max}
-use native.Mathlib.Nat.{div-mul-le-self, le-max-right, lt-div-mul-add, mul-le-mul-left, mul-le-mul-right, suc-mul, zero-mul}
+use native.Mathlib.Nat.{div-mul-le-self, le-max-right, le-refl, lt-div-mul-add, mul-le-mul-left, mul-le-mul-right, suc-mul, zero-mul}
 use native.Mathlib.Decide.{decLt, ℕ-discrete}
 use native.Mathlib.Omega.{arith}
 use mathlib.Core.Path.{_≡_, refl, ap, sym, _∙_}
-use mathlib.Core.Bool.{Bool, true, false}
+use mathlib.Core.Bool.{Bool, true}
 use mathlib.Core.List.{List, [], _∷_, _++_, flatten, append-assoc, append-nil}
 use lib.ListN.{length, getD, take, drop, length-append, length-take, length-drop, drop-of-length-le}
 use lib.Seq.{drop-drop, getD-at, getD-take, take-add, take-all, take-append-le, take-at}
-use lib.Dec.{eqb}
 use borrow.Author.Tests.{eq-eqb, ne-eqb, leb-true, ltb-false, not-false}
 use Rattle.wire.specs.Bytes.{over}
 use Rattle.wire.specs.Choice.{pick, firstOf}
@@ -165,11 +164,8 @@ module _ (c : Settings) (flag : Bool) (n : ℕ) (u : List ℕ) where
   unfolding sectionsTo flatten sectionAt piece
   bytes-to zero = rw (zero-mul n) (omega arith)
   bytes-to (suc k) =
-      let p : List ℕ = take n (drop (k * n) u) in
-      let last : ℕ = sectionCount n u - 1 in
-      let size = section-size (c .address) flag k last p in
-      rw (bytes-more k, suc-mul k n, ← drop-drop n (k * n) u, length-append, size, length-take, length-drop n (drop (k * n) u))
-      (omega (arith, bytes-to k))
+      rw (bytes-more k, suc-mul k n, ← drop-drop n (k * n) u, length-append, section-size, length-take)
+      (omega (arith, bytes-to k, length-drop n (drop (k * n) u)))
 
   -- the total length
   pub sections-bytes : 0 < n → length (flatten (sections c flag n u)) ≡ length u + 16 * sectionCount n u
@@ -218,3 +214,8 @@ module _ (c : Settings) (flag : Bool) (n : ℕ) (u : List ℕ) where
     joined-to (suc k) h =
         let carried = section-written k (omega arith) .carried in
         rw (joined-more (sectionsTo c flag n u k) (sectionAt c flag n u k), joined-to k (omega arith), carried) (pieces-more n u k)
+
+    -- the payloads, joined, are the unit
+    pub sections-joined : joined (sections c flag n u) ≡ u
+    unfolding sections
+    sections-joined = joined-to (sectionCount n u) (le-refl (sectionCount n u)) ∙ pieces-all n u some

@@ -5,7 +5,7 @@ use native.Mathlib.Omega.{arith}
 use mathlib.Core.Path.{_≡_, refl, ap, _∙_}
 use mathlib.Core.List.{List, [], _++_, append-assoc, append-nil}
 use lib.ListN.{length, take, drop, length-append, length-drop, drop-of-length-le}
-use lib.Seq.{drop-at, drop-drop, drop-paste, length-take-le, paste, take-all, take-at, take-length, take-paste}
+use lib.Seq.{drop-at, drop-drop, drop-paste, length-take-le, take-all, take-at, take-length, take-paste}
 use Rattle.wire.specs.Bytes.{bytesOf, over}
 use Rattle.wire.proofs.Bytes.{length-bytesOf}
 use Rattle.rules.specs.Crc.{crc32}

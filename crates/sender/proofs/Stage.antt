@@ -1,5 +1,5 @@
 -- After i turns the output begins with the first i sections, and what is left of the unit is behind the first i pieces.
-use Prim.Native.Nat.{ℕ, suc, _+_, _*_, _-_, _≤_, _<_, min}
+use Prim.Native.Nat.{ℕ, _+_, _*_, _-_, _≤_, _<_, min}
 use native.Mathlib.Decide.{decLe}
 use native.Mathlib.Nat.{le-refl, suc-mul, zero-mul}
 use native.Mathlib.Numerals.{add-one}
