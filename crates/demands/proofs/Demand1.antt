@@ -16,6 +16,9 @@ use Rattle.rules.specs.declared.State.{State}
 use Rattle.rules.specs.declared.State.the-variants.{Idle, Open}
 use Rattle.rules.specs.declared.Answer.the-variants.{Delivered, PassedBy, Refused, Stored}
 use Rattle.rules.specs.Check.{check, checkLines, faultLines, formLines, orderLines}
+use Rattle.rules.specs.declared.Address.{Address}
+use Rattle.notification_rules.specs.declared.Notice.the-variants.{Refused as NoticeRefused}
+use Rattle.notification_rules.specs.Notice.{noticeOf, refusal}
 use Rattle.pes_rules.specs.Packet.{fault as pesFault, readOf, refused as pesRefused}
 use Rattle.rules.specs.Send.{sendingLength, sendingNumber, sendLines, sentOf, written}
 use Rattle.rules.specs.Section.{lastSectionNumber, payload, sectionNumber}
@@ -132,6 +135,11 @@ pes-by-lines : (s : List ℕ) → (pesFault s ≡ 0 → ⊥) → readOf s ≡ pe
 unfolding readOf pick
 pes-by-lines s h = rw (ne-eqb (pesFault s) 0 h)
 
+-- ---- the INT reader
+notice-by-lines : (device : Address) (s : List ℕ) → (refusal s ≡ 0 → ⊥) → noticeOf device s ≡ NoticeRefused (refusal s)
+unfolding noticeOf pick
+notice-by-lines device s h = rw (ne-eqb (refusal s) 0 h)
+
 -- ---- the contracts
 pub demand-1 : Demand1
 unfolding check gapOf
@@ -142,5 +150,6 @@ demand-1 =
       gap = λ κs a z e p. p;
       send = λ κs a z e p.
           rw (p .sending, p .output) (sent-by-lines (a .0) (a .1 .0) (a .1 .1 .0) (now (a .1 .1 .1 .0)) (now (a .1 .1 .1 .1 .0)));
+      notification = λ κs a z e p h. p ∙ notice-by-lines (a .0) (now (a .1 .0)) h;
       pes = λ κs a z e p h. p ∙ pes-by-lines (now (a .0)) h;
     }

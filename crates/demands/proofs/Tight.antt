@@ -50,6 +50,16 @@ tight =
         p .start ∙ sym (q .start),
         p .length ∙ sym (q .length),
       );
+      notification-read = λ κs a z y e d p q. (
+        p .number ∙ sym (q .number),
+        p .part .bytes ∙ sym (q .part .bytes),
+        p .part .block ∙ sym (q .part .block),
+        p .part .place ∙ sym (q .part .place),
+      );
+      notice = λ κs a z y e d p q. p ∙ sym q;
+      notice-number-of = λ κs a z y e d p q. p ∙ sym q;
+      notice-place-of = λ κs a z y e d p q. p ∙ sym q;
+      fossknut-notification = λ κs a z y e d p q. (p .number ∙ sym (q .number), p .place ∙ sym (q .place));
       gap = λ κs a z y e d p q. p ∙ sym q;
       number-of = λ κs a z y e d p q. p ∙ sym q;
       length-of = λ κs a z y e d p q. p ∙ sym q;

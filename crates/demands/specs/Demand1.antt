@@ -16,6 +16,8 @@ use Rattle.rules.specs.declared.State.{State}
 use Rattle.rules.specs.declared.State.the-variants.{Idle}
 use Rattle.rules.specs.declared.Answer.the-variants.{PassedBy, Refused}
 use Rattle.rules.specs.Check.{checkLines}
+use Rattle.notification_rules.specs.declared.Notice.the-variants.{Refused as NoticeRefused}
+use Rattle.notification_rules.specs.Notice.{refusal}
 use Rattle.pes_rules.specs.Packet.{fault as pesFault, refused as pesRefused}
 use Rattle.rules.specs.Section.{payload}
 use Rattle.rules.specs.Send.{sendingLength, sendingNumber, sendLines, SendOutcome, written}
@@ -24,6 +26,8 @@ use Rattle.section.proofs.check.Reads as check-reads
 use Rattle.section.proofs.check.Kinds as check-kinds
 use Rattle.sender.proofs.send.Reads as send-reads
 use Rattle.sender.proofs.send.Kinds as send-kinds
+use Rattle.notification.proofs.notice.Reads as notice-reads
+use Rattle.notification.proofs.notice.Kinds as notice-kinds
 use Rattle.pes.proofs.read.Reads as pes-read-reads
 use Rattle.pes.proofs.read.Kinds as pes-read-kinds
 use Rattle.receiver.proofs.receive.Reads as receive-reads
@@ -87,3 +91,6 @@ pub record Demand1 : Type 0 where
   -- the PES reader: a refusal gives its number, zeros and an empty part
   pub pes : (κs : Lfts 1) (a : Dens κs pes-read-kinds.ps) (z : resT pes-read-kinds.r κs .Denot) (e : AtExit (endedOf 1 pes-read-kinds.ps pes-read-kinds.r) κs)
       → pes-read-reads.Learnt κs a z e → (pesFault (now (a .0)) ≡ 0 → ⊥) → z ≡ pesRefused (pesFault (now (a .0)))
+  -- the INT reader: a refusal gives the first of 12 to 18 and 30 to 33 that applies
+  pub notification : (κs : Lfts 1) (a : Dens κs notice-kinds.ps) (z : resT notice-kinds.r κs .Denot) (e : AtExit (endedOf 1 notice-kinds.ps notice-kinds.r) κs)
+      → notice-reads.Learnt κs a z e → (refusal (now (a .1 .0)) ≡ 0 → ⊥) → z ≡ NoticeRefused (refusal (now (a .1 .0)))

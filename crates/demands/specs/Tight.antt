@@ -37,6 +37,16 @@ use Rattle.exports.proofs.fossknut_pes.Reads as fossknut-pes-reads
 use Rattle.exports.proofs.fossknut_pes.Kinds as fossknut-pes-kinds
 use Rattle.section.proofs.settings.good_settings.Reads as good-settings-reads
 use Rattle.section.proofs.settings.good_settings.Kinds as good-settings-kinds
+use Rattle.notification.proofs.read.Reads as notification-read-reads
+use Rattle.notification.proofs.read.Kinds as notification-read-kinds
+use Rattle.notification.proofs.notice.Reads as notice-reads
+use Rattle.notification.proofs.notice.Kinds as notice-kinds
+use Rattle.notification.proofs.number_of.Reads as notice-number-of-reads
+use Rattle.notification.proofs.number_of.Kinds as notice-number-of-kinds
+use Rattle.notification.proofs.place_of.Reads as notice-place-of-reads
+use Rattle.notification.proofs.place_of.Kinds as notice-place-of-kinds
+use Rattle.exports.proofs.fossknut_notification.Reads as fossknut-notification-reads
+use Rattle.exports.proofs.fossknut_notification.Kinds as fossknut-notification-kinds
 use Rattle.exports.specs.Numbers.{numbers}
 use Rattle.receiver.proofs.receive.Reads as receive-reads
 use Rattle.receiver.proofs.receive.Kinds as receive-kinds
@@ -157,6 +167,22 @@ ForeignPesTight =
     → fossknut-pes-reads.Learnt κs a z e → fossknut-pes-reads.Learnt κs a y d
     → (z ≡ y) × (now (e .1 .0) ≡ now (d .1 .0)) × (now (e .1 .1 .0) ≡ now (d .1 .1 .0)) × (now (e .1 .1 .1 .0) ≡ now (d .1 .1 .1 .0)) × (now (e .1 .1 .1 .1 .0) ≡ now (d .1 .1 .1 .1 .0)) × (now (e .1 .1 .1 .1 .1 .0) ≡ now (d .1 .1 .1 .1 .1 .0)) × (now (e .1 .1 .1 .1 .1 .1 .0) ≡ now (d .1 .1 .1 .1 .1 .1 .0))
 
+-- the answer of the INT reader, and which part of the section it hands out
+abbrev pub NotificationTight : Type 0
+NotificationTight =
+    (κs : Lfts 2) (a : Dens κs notification-read-kinds.ps) (z y : resT notification-read-kinds.r κs .Denot)
+    (e d : AtExit (endedOf 2 notification-read-kinds.ps notification-read-kinds.r) κs)
+    → notification-read-reads.Learnt κs a z e → notification-read-reads.Learnt κs a y d
+    → (now (e .1 .1 .0) ≡ now (d .1 .1 .0)) × (now z ≡ now y) × (ptr z .0 ≡ ptr y .0) × (ptr z .1 ≡ ptr y .1)
+
+-- number and place for a foreign caller
+abbrev pub ForeignNotificationTight : Type 0
+ForeignNotificationTight =
+    (κs : Lfts 2) (a : Dens κs fossknut-notification-kinds.ps) (z y : resT fossknut-notification-kinds.r κs .Denot)
+    (e d : AtExit (endedOf 2 fossknut-notification-kinds.ps fossknut-notification-kinds.r) κs)
+    → fossknut-notification-reads.Learnt κs a z e → fossknut-notification-reads.Learnt κs a y d
+    → (z ≡ y) × (now (e .1 .1 .1 .1 .1 .1 .1 .0) ≡ now (d .1 .1 .1 .1 .1 .1 .1 .0))
+
 pub record Tight : Type 0 where
   -- wire
   pub byte-at : OneResult 1 byte-at-kinds.ps byte-at-kinds.r byte-at-reads.Learnt
@@ -192,6 +218,11 @@ pub record Tight : Type 0 where
   pub send-by-default : SendByDefaultTight
   pub sender-number-of : OneResult 0 sender-number-of-kinds.ps sender-number-of-kinds.r sender-number-of-reads.Learnt
   pub sender-length-of : OneResult 0 sender-length-of-kinds.ps sender-length-of-kinds.r sender-length-of-reads.Learnt
+  -- notification
+  pub notification-read : NotificationTight
+  pub notice : OneResult 1 notice-kinds.ps notice-kinds.r notice-reads.Learnt
+  pub notice-number-of : OneResult 0 notice-number-of-kinds.ps notice-number-of-kinds.r notice-number-of-reads.Learnt
+  pub notice-place-of : OneResult 0 notice-place-of-kinds.ps notice-place-of-kinds.r notice-place-of-reads.Learnt
   -- pes
   pub pes-read : OneResult 1 pes-read-kinds.ps pes-read-kinds.r pes-read-reads.Learnt
   pub pes-data : DataTight
@@ -203,3 +234,4 @@ pub record Tight : Type 0 where
   pub fossknut-send : ForeignSendTight
   pub fossknut-send-by-default : ForeignSendByDefaultTight
   pub fossknut-pes : ForeignPesTight
+  pub fossknut-notification : ForeignNotificationTight

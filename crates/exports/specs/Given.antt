@@ -4,6 +4,8 @@ use mathlib.Core.Path.{_≡_}
 use mathlib.Core.List.{List}
 use Rattle.rules.specs.Send.{SendOutcome, sendingNumber, sendingLength}
 use Rattle.rules.specs.Step.{Outcome, numberOf, lengthOf}
+use Rattle.notification_rules.specs.declared.Notice.{Notice}
+use Rattle.notification_rules.specs.Notice.{numberOf as noticeNumber, placeOf}
 use Rattle.pes_rules.specs.declared.Reading.{Reading}
 use Rattle.exports.specs.Numbers.{flagNumber, Numbers, numbersOf}
 
@@ -19,6 +21,11 @@ pub record Gives (o : SendOutcome) (r l : ℕ) (out : List ℕ) : Type 0 where
   pub number : r ≡ sendingNumber (o .sending)
   pub length : l ≡ sendingLength (o .sending)
   pub output : out ≡ o .output
+
+-- of the INT reader: the number and the place
+pub record Noticed (o : Notice) (r p : ℕ) : Type 0 where
+  pub number : r ≡ noticeNumber o
+  pub place : p ≡ placeOf o
 
 -- of the PES reader: the answer, both flags, both values, and the place and the length of the data
 pub record Told (o : Reading) (r e d x v p n : ℕ) : Type 0 where

@@ -1,6 +1,7 @@
 // What the Rust box links: functions on numbers and byte slices only. A slice passes as a pointer and then a length.
 mod numbers;
 
+use numbers::address_of;
 use numbers::put;
 use numbers::settings_of;
 use numbers::state_of;
@@ -9,8 +10,9 @@ ghost use Rattle.rules.specs.Check.{check};
 ghost use Rattle.rules.specs.Crc.{crc32};
 ghost use Rattle.rules.specs.Send.{sentOf, defaultPiece};
 ghost use Rattle.rules.specs.Step.{stepOf, gapOf};
-ghost use Rattle.exports.specs.Numbers.{settingsOf, flagOf, numbers, stateOf, numbersOf};
-ghost use Rattle.exports.specs.Given.{Given, Gives, Told};
+ghost use Rattle.exports.specs.Numbers.{addressOf, settingsOf, flagOf, numbers, stateOf, numbersOf};
+ghost use Rattle.exports.specs.Given.{Given, Gives, Noticed, Told};
+ghost use Rattle.notification_rules.specs.Notice.{noticeOf};
 ghost use Rattle.pes_rules.specs.Packet.{readOf};
 
 // CRC_32 of the bytes.
@@ -141,6 +143,26 @@ pub extern "C" fn fossknut_send_by_default(
     let sending = sender::send_by_default(settings, flag != 0, unit, out);
     *length = sender::length_of(sending);
     sender::number_of(sending)
+}
+
+// The INT reader for the device with this address in printed order. With 3 the nine bytes stand at `place` in the section; with any other
+// answer it is 0.
+#[no_mangle]
+pub extern "C" fn fossknut_notification(
+    mac1: u8,
+    mac2: u8,
+    mac3: u8,
+    mac4: u8,
+    mac5: u8,
+    mac6: u8,
+    s: &[u8],
+    place: &mut usize,
+) -> u8
+    ensures { λ r. ⌜ Noticed (noticeOf (addressOf mac1 mac2 mac3 mac4 mac5 mac6) (now (s .entry))) r (now (place .exit)) ⌝ }
+{
+    let notice = notification::notice(address_of(mac1, mac2, mac3, mac4, mac5, mac6), s);
+    *place = notification::place_of(notice);
+    notification::number_of(notice)
 }
 
 // The PES data packet reader: the answer; flags, values and the data's place in the packet go through the numbers lent.

@@ -4,9 +4,22 @@ use rules::Key;
 use rules::Settings;
 use rules::State;
 ghost use mathlib.Core.Path.{_≡_};
-ghost use Rattle.exports.specs.Numbers.{settingsOf, numbers, stateOf, numbersOf};
+ghost use Rattle.exports.specs.Numbers.{addressOf, settingsOf, numbers, stateOf, numbersOf};
 
-// Settings as numbers: the address in printed order, MAC_address_1 first.
+// An address in printed order, MAC_address_1 first.
+pub fn address_of(mac1: u8, mac2: u8, mac3: u8, mac4: u8, mac5: u8, mac6: u8) -> Address
+    ensures { λ r. ⌜ r ≡ addressOf mac1 mac2 mac3 mac4 mac5 mac6 ⌝ }
+{
+    Address {
+        mac1: mac1,
+        mac2: mac2,
+        mac3: mac3,
+        mac4: mac4,
+        mac5: mac5,
+        mac6: mac6,
+    }
+}
+
 pub fn settings_of(
     mac1: u8,
     mac2: u8,
@@ -20,14 +33,7 @@ pub fn settings_of(
     ensures { λ r. ⌜ r ≡ settingsOf mac1 mac2 mac3 mac4 mac5 mac6 range limit ⌝ }
 {
     Settings {
-        address: Address {
-            mac1: mac1,
-            mac2: mac2,
-            mac3: mac3,
-            mac4: mac4,
-            mac5: mac5,
-            mac6: mac6,
-        },
+        address: address_of(mac1, mac2, mac3, mac4, mac5, mac6),
         range: range,
         limit: limit,
     }
