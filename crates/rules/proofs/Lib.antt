@@ -4,6 +4,7 @@ pub mod Due
 pub mod Finish
 pub mod Keys
 pub mod Lists
+pub mod Offer
 pub mod Row
 pub mod Runs
 pub mod Sound

@@ -1,0 +1,69 @@
+-- Byte i is read before it is written, for the move is downward; so the first i bytes are the moved ones, and the rest are as they were.
+use Prim.Native.Nat.{ℕ, _+_, _-_, _≤_}
+use native.Mathlib.Omega.{arith}
+use mathlib.Core.Path.{_≡_, refl, ap, _∙_}
+use mathlib.Core.List.{List, _++_}
+use lib.ListN.{length, take, drop, getD, set, length-set}
+use denote.Ref.{now}
+use Rattle.listing.proofs.Move.{move-step}
+use Rattle.listing.proofs.move_down.Statement.{statement}
+use Rattle.listing.proofs.move_down.Tie as tie
+
+abbrev Inv-loop : tie.InvT-loop
+Inv-loop b₀ from n i₀ b i = (i ≤ n) × (length b ≡ length b₀) × (b ≡ take i (drop from b₀) ++ drop i b₀)
+
+abbrev μ-loop : tie.MeasureT-loop
+μ-loop b₀ from n i₀ b i = n - i
+
+loop-holds : tie.Need-loop-holds Inv-loop μ-loop
+loop-holds c = (omega arith, refl, refl)
+
+add-b : tie.Need-add-b Inv-loop μ-loop
+add-b c = record { fits = omega (arith, c .before .before .pre, c .before .before .good .0 .0) }
+
+slice-read-b : tie.Need-slice-read-b Inv-loop μ-loop
+slice-read-b c = omega (arith, c .before .before .before .pre)
+
+slice-write-b : tie.Need-slice-write-b Inv-loop μ-loop
+slice-write-b c = omega (arith, c .before .before .before .pre)
+
+add-i : tie.Need-add-i Inv-loop μ-loop
+add-i c = omega arith
+
+loop-less : tie.Need-loop-less Inv-loop μ-loop
+loop-less c = omega arith
+
+loop-again : tie.Need-loop-again Inv-loop μ-loop
+loop-again c =
+    let i : ℕ = c .before .before .loop .i in
+    let f : ℕ = c .before .before .before .args .from in
+    let d : List ℕ = now (c .before .before .before .args .b) in (
+      omega arith,
+      simp length-set (c .before .before .loop .inv .1),
+      ap (λ (l : List ℕ). set l i (getD l (f + i) 0)) (c .before .before .loop .inv .2) ∙ move-step d f i (omega (arith, c .before .before .before .pre)),
+    )
+
+same-length : tie.Need-same-length Inv-loop μ-loop
+same-length c = c .before .loop .inv .1
+
+returns : tie.Need-returns Inv-loop μ-loop
+returns c =
+    let d : List ℕ = now (c .before .before .args .b) in
+    let e : c .before .loop .i ≡ c .before .before .args .n = omega arith in
+    c .before .loop .inv .2 ∙ ap (λ (k : ℕ). take k (drop (c .before .before .args .from) d) ++ drop k d) e
+
+pub move-down-spec : {M : Type 1} → statement M
+move-down-spec =
+    tie.close
+    (tie.spec
+    Inv-loop
+    μ-loop
+    loop-holds
+    add-b
+    slice-read-b
+    slice-write-b
+    add-i
+    loop-less
+    loop-again
+    same-length
+    returns)
