@@ -4,8 +4,10 @@ use native.Mathlib.Omega.{arith}
 use mathlib.Core.Path.{_≡_, refl, ap, sym, _∙_}
 use mathlib.Core.Bool.{Bool, true, false}
 use mathlib.Core.List.{List, _++_}
+use lib.Dec.{eqb}
 use lib.ListN.{length, getD, set, take, drop, length-drop, take-append-drop}
 use lib.Seq.{length-take-le, take-at, take-take, take-append-le, drop-append-le, getD-append-add, getD-drop}
+use borrow.Author.Tests.{eqb-true}
 use Rattle.wire.proofs.Choice.{never}
 use Rattle.wire.proofs.Lists.{over-step}
 use Rattle.listing.specs.declared.Walk.{Walk}
@@ -41,6 +43,7 @@ kept-move w b d f q =
         front = rw z at (p .front) ∙ ap (take n) q ∙ take-at hand (drop n b) n l;
         all = λ t. omega (arith, p .all t);
       };
+      over = λ t. z;
       offset = refl;
       out = refl;
       state = refl;
@@ -60,9 +63,9 @@ hand-read b ys s e h k =
     ∙ ap (λ (l : List ℕ). take (e - s) (drop s l)) (take-append-drop e b)
 
 -- n bytes more read behind the bytes at hand
-pub kept-read : (w : Walk) (b ys : List ℕ) (n : ℕ) (t : Bool) → Fine w (length b) → w .over ≡ false
-    → Kept w b (record { start = w .start; end = w .end + n; offset = w .offset; out = w .out; over = t; done = w .done; state = w .state }) (take (w .end) b ++ ys)
-kept-read w b ys n t f o =
+pub kept-read : (w : Walk) (b ys : List ℕ) (n : ℕ) → Fine w (length b) → w .over ≡ false
+    → Kept w b (record { start = w .start; end = w .end + n; offset = w .offset; out = w .out; over = eqb n 0; done = w .done; state = w .state }) (take (w .end) b ++ ys)
+kept-read w b ys n f o =
     let s : ℕ = w .start in
     let e : ℕ = w .end in
     let h : e - s ≤ e + n - s = omega (arith, f .order) in
@@ -74,6 +77,7 @@ kept-read w b ys n t f o =
             ∙ hand-read b ys s e (f .order) (f .within);
         all = λ z. absurd (never (sym o ∙ z));
       };
+      over = λ z. omega (arith, eqb-true n 0 z);
       offset = refl;
       out = refl;
       state = refl;

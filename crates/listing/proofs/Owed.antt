@@ -19,7 +19,7 @@ use Rattle.rules.specs.Step.{Does, stepOf}
 use Rattle.rules.proofs.Offer.{offer-within, offer-some, offer-window, offers-more}
 use Rattle.listing.specs.declared.Walk.{Walk}
 use Rattle.listing.specs.Text.{line, Put}
-use Rattle.listing.specs.Lines.{settings, linesOf, listing}
+use Rattle.listing.specs.Lines.{listingSettings, linesOf, listing}
 use Rattle.listing.specs.Walk.{Fine, atHand, Left, ready, Stays, Kept, offered, outcomeOf, Served, full, written, owed, Turned}
 use Rattle.listing.proofs.Text.{put-front}
 
@@ -95,7 +95,7 @@ left-stays w b rest s l =
     record { front = rw (s .start, s .end) at (l .front); all = λ t. rw (s .start, s .end) at (l .all (s .over ∙ t)) }
 
 pub kept-stays : {r : Walk} (w : Walk) (b : List ℕ) → Stays w r → r .out ≡ w .out → Kept w b r b
-kept-stays w b s e = record { left = λ rest l. left-stays w b rest s l; offset = s .offset; out = e; state = s .state }
+kept-stays w b s e = record { left = λ rest l. left-stays w b rest s l; over = λ t. rw (s .start, s .end); offset = s .offset; out = e; state = s .state }
 
 pub turned-flush : {b o u rest : List ℕ} {r : Walk} (c : Settings) (w : Walk) → full w (length o) ≡ true → Stays w r → r .out ≡ 0
     → Left r b rest → Turned c w b o u r o u rest
@@ -171,7 +171,7 @@ roomy w k h m = omega (arith, ltb-false (k - w .out) 63 h)
 
 -- ---- the start and the end
 pub owed-fresh : (w : Walk) (o recording : List ℕ) → w .out ≡ 0 → w .offset ≡ 0 → w .state ≡ Idle
-    → owed settings w o (replicate 65535 0) recording ≡ listing recording
+    → owed listingSettings w o (replicate 65535 0) recording ≡ listing recording
 unfolding owed listing
 owed-fresh w o recording e f g = rw (e, f, g)
 

@@ -99,9 +99,12 @@ unfolding decimal
 decimal-more n f h =
     within-more 19 n h ∙ ap (λ (l : List ℕ). l ++ ((48 + n % 10) ∷ [])) (within-enough 18 (n / 10) (omega arith))
 
-pub field-short : (n mark : ℕ) → length (field n mark) ≤ 21
+field-short : (n mark : ℕ) → length (field n mark) ≤ 21
 unfolding field
 field-short n mark = omega (arith, length-append (decimal n) (mark ∷ []), decimal-short n)
+
+pub field-end : {b o : List ℕ} {at r : ℕ} (n mark : ℕ) → Put b at (field n mark) r o → r ≤ at + 21
+field-end n mark p = omega (arith, p .end, field-short n mark)
 
 -- ---- a number put digit by digit
 pub put-last : {b o : List ℕ} {at r n d : ℕ} → n < 10 → d ≡ 48 + n → Put b at (d ∷ []) r o → Put b at (decimal n) r o

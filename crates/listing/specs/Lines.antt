@@ -10,8 +10,8 @@ use Rattle.rules.specs.Step.{stepOf}
 use Rattle.listing.specs.Text.{line}
 
 -- address 02:00:5E:10:20:30, range 6, limit 16
-abbrev pub settings : Settings
-settings =
+abbrev pub listingSettings : Settings
+listingSettings =
     record {
       address = record { mac1 = 0x02; mac2 = 0x00; mac3 = 0x5E; mac4 = 0x10; mac5 = 0x20; mac6 = 0x30 };
       range = 6;
@@ -27,4 +27,4 @@ linesOf c offset σ b (s ∷ more) =
 
 -- a fresh receiver with a buffer of 65,535 bytes is given the recording, offer by offer
 unfoldable pub listing : List ℕ → List ℕ
-listing recording = linesOf settings 0 Idle (replicate 65535 0) (offers recording)
+listing recording = linesOf listingSettings 0 Idle (replicate 65535 0) (offers recording)

@@ -39,9 +39,11 @@ pub record Stays (w r : Walk) : Type 0 where
   pub offset : r .offset ≡ w .offset
   pub state : r .state ≡ w .state
 
--- more is read, or the bytes at hand are moved: what may be left after that may have been left before
+-- more is read, or the bytes at hand are moved: what may be left after that may have been left before, and the input has ended only
+-- where nothing more came
 pub record Kept (w : Walk) (b : List ℕ) (r : Walk) (b′ : List ℕ) : Type 0 where
   pub left : (rest : List ℕ) → Left r b′ rest → Left w b rest
+  pub over : r .over ≡ true → r .end - r .start ≡ w .end - w .start
   pub offset : r .offset ≡ w .offset
   pub out : r .out ≡ w .out
   pub state : r .state ≡ w .state

@@ -13,7 +13,7 @@ ghost use Prim.Native.Nat.{ℕ, _+_, _≤_, _<_};
 ghost use lib.ListN.{length, drop, take, replicate};
 ghost use Rattle.listing.specs.Text.{decimal, field, line, Put};
 ghost use Rattle.rules.specs.declared.Settings.{Settings as Given};
-ghost use Rattle.listing.specs.Lines.{settings, listing};
+ghost use Rattle.listing.specs.Lines.{listingSettings, listing};
 ghost use Rattle.listing.specs.Walk.{Fine, Left, ready, Stays, Kept, Served, Room, full, owed, Turned};
 
 // The bytes at hand are start..end of the input's buffer, the first of them is number `offset` of the input, and the output's
@@ -29,11 +29,11 @@ struct Walk {
 }
 
 // Puts one byte at `at` and answers where it ends.
-fn put_byte(o: &mut [u8], at: usize, byte: u8) -> usize
-    requires { ⌜ at + 1 ≤ length (now o) ⌝ }
-    ensures { λ r. ⌜ Put (now (o .entry)) at (byte ∷ []) r (now (o .exit)) ⌝ }
+fn put_byte(output: &mut [u8], at: usize, byte: u8) -> usize
+    requires { ⌜ at + 1 ≤ length (now output) ⌝ }
+    ensures { λ r. ⌜ Put (now (output .entry)) at (byte ∷ []) r (now (output .exit)) ⌝ }
 {
-    o[at] = byte;
+    output[at] = byte;
     at + 1
 }
 
@@ -46,172 +46,182 @@ fn digit(n: u64) -> u8
 }
 
 // Puts a number in decimal: the digits before the last, then the last.
-fn put_decimal(o: &mut [u8], at: usize, n: u64) -> usize
-    requires { ⌜ at + length (decimal n) ≤ length (now o) ⌝ }
-    ensures { λ r. ⌜ Put (now (o .entry)) at (decimal n) r (now (o .exit)) ⌝ }
+fn put_decimal(output: &mut [u8], at: usize, n: u64) -> usize
+    requires { ⌜ at + length (decimal n) ≤ length (now output) ⌝ }
+    ensures { λ r. ⌜ Put (now (output .entry)) at (decimal n) r (now (output .exit)) ⌝ }
 {
     if n < 10 {
-        return put_byte(o, at, digit(n));
+        return put_byte(output, at, digit(n));
     }
-    let end = put_decimal(o, at, n / 10);
-    put_byte(o, end, digit(n % 10))
+    let end = put_decimal(output, at, n / 10);
+    put_byte(output, end, digit(n % 10))
 }
 
 // Puts a number and the byte behind it.
-fn put_field(o: &mut [u8], at: usize, n: u64, mark: u8) -> usize
-    requires { ⌜ at + 21 ≤ length (now o) ⌝ }
-    ensures { λ r. ⌜ Put (now (o .entry)) at (field n mark) r (now (o .exit)) ⌝ }
+fn put_field(output: &mut [u8], at: usize, n: u64, mark: u8) -> usize
+    requires { ⌜ at + 21 ≤ length (now output) ⌝ }
+    ensures { λ r. ⌜ Put (now (output .entry)) at (field n mark) r (now (output .exit)) ⌝ }
 {
-    let end = put_decimal(o, at, n);
-    put_byte(o, end, mark)
+    let end = put_decimal(output, at, n);
+    put_byte(output, end, mark)
 }
 
-fn put_line(o: &mut [u8], at: usize, offset: u64, answer: Answer) -> usize
-    requires { ⌜ at + 63 ≤ length (now o) ⌝ }
-    ensures { λ r. ⌜ Put (now (o .entry)) at (line offset answer) r (now (o .exit)) ⌝ }
+fn put_line(output: &mut [u8], at: usize, offset: u64, answer: Answer) -> usize
+    requires { ⌜ at + 63 ≤ length (now output) ⌝ }
+    ensures { λ r. ⌜ Put (now (output .entry)) at (line offset answer) r (now (output .exit)) ⌝ }
 {
-    let second = put_field(o, at, offset, b' ');
-    let third = put_field(o, second, receiver::number_of(answer) as u64, b' ');
-    put_field(o, third, receiver::length_of(answer) as u64, b'\n')
+    let number = receiver::number_of(answer) as u64;
+    let length = receiver::length_of(answer) as u64;
+    let second = put_field(output, at, offset, b' ');
+    let third = put_field(output, second, number, b' ');
+    put_field(output, third, length, b'\n')
 }
 
 // One offer: the receiver gets it, and its line is put into the output's buffer.
-fn serve(c: Settings, w: Walk, b: &[u8], o: &mut [u8], unit: &mut [u8]) -> Walk
-    requires { ⌜ Fine w (length (now b)) ⌝ }
-    requires { ⌜ ready w ≡ true ⌝ }
-    requires { ⌜ w .out + 63 ≤ length (now o) ⌝ }
-    ensures { λ r. ⌜ Served c w (now (b .entry)) (now (o .entry)) (now (unit .entry)) r (now (o .exit)) (now (unit .exit)) ⌝ }
-    ensures { λ r. ⌜ Fine r (length (now (b .entry))) ⌝ }
-    ensures { λ r. ⌜ Room r (length (now (o .entry))) ⌝ }
+fn serve(settings: Settings, walk: Walk, input: &[u8], output: &mut [u8], unit: &mut [u8]) -> Walk
+    requires { ⌜ Fine walk (length (now input)) ⌝ }
+    requires { ⌜ ready walk ≡ true ⌝ }
+    requires { ⌜ walk .out + 63 ≤ length (now output) ⌝ }
+    ensures { λ r. ⌜ Served settings walk (now (input .entry)) (now (output .entry)) (now (unit .entry))
+        r (now (output .exit)) (now (unit .exit)) ⌝ }
+    ensures { λ r. ⌜ Fine r (length (now (input .entry))) ⌝ }
+    ensures { λ r. ⌜ Room r (length (now (output .entry))) ⌝ }
 {
-    let start = w.start;
-    let end = w.end;
-    let state = w.state;
-    let n = section::cut::offer_length(&b[start..end]);
+    let start = walk.start;
+    let end = walk.end;
+    let state = walk.state;
+    let n = section::cut::offer_length(&input[start..end]);
     let stop = start + n;
-    let step = receiver::receive(c, state, &b[start..stop], unit);
+    let step = receiver::receive(settings, state, &input[start..stop], unit);
     let answer = step.answer;
     let after = step.state;
-    let at = put_line(o, w.out, w.offset, answer);
+    let at = put_line(output, walk.out, walk.offset, answer);
     Walk {
         start: stop,
         end: end,
-        offset: std::num::wrapping_add_u64(w.offset, n as u64),
+        offset: std::num::wrapping_add_u64(walk.offset, n as u64),
         out: at,
-        over: w.over,
+        over: walk.over,
         done: false,
         state: after,
     }
 }
 
 // Moves the n bytes from index `from` on to the start.
-fn move_down(b: &mut [u8], from: usize, n: usize)
-    requires { ⌜ from + n ≤ length (now b) ⌝ }
-    ensures { λ _. ⌜ now (b .exit) ≡ take n (drop from (now (b .entry))) ++ drop n (now (b .entry)) ⌝ }
+fn move_down(buffer: &mut [u8], from: usize, n: usize)
+    requires { ⌜ from + n ≤ length (now buffer) ⌝ }
+    ensures { λ _. ⌜ now (buffer .exit) ≡ take n (drop from (now (buffer .entry))) ++ drop n (now (buffer .entry)) ⌝ }
 {
     let mut i = 0;
     while i < n {
-        b[i] = b[from + i];
+        buffer[i] = buffer[from + i];
         i += 1;
     }
 }
 
 // One read, of as much as there is room for: 0 at the end of the input, and where it cannot be read. (A read into no room is 0 too.)
-fn read(b: &mut [u8]) -> usize
-    requires { ⌜ 0 < length (now b) ⌝ }
-    ensures { λ r. ⌜ r ≤ length (now (b .entry)) ⌝ }
+fn read(buffer: &mut [u8]) -> usize
+    requires { ⌜ 0 < length (now buffer) ⌝ }
+    ensures { λ r. ⌜ r ≤ length (now (buffer .entry)) ⌝ }
 {
-    let got = libc::read(STDIN_FILENO, b);
-    io::count(got, b)
+    let got = libc::read(STDIN_FILENO, buffer);
+    io::count(got, buffer)
 }
 
 // More input: one read behind the bytes at hand; where the room there is short, they move to the front first.
-fn refill(w: Walk, b: &mut [u8]) -> Walk
-    requires { ⌜ Fine w (length (now b)) ⌝ }
-    requires { ⌜ w .over ≡ false ⌝ }
-    ensures { λ r. ⌜ Fine r (length (now (b .entry))) ⌝ }
-    ensures { λ r. ⌜ Kept w (now (b .entry)) r (now (b .exit)) ⌝ }
+fn refill(walk: Walk, input: &mut [u8]) -> Walk
+    requires { ⌜ Fine walk (length (now input)) ⌝ }
+    requires { ⌜ walk .over ≡ false ⌝ }
+    ensures { λ r. ⌜ Fine r (length (now (input .entry))) ⌝ }
+    ensures { λ r. ⌜ Kept walk (now (input .entry)) r (now (input .exit)) ⌝ }
 {
-    let start = w.start;
-    let end = w.end;
-    let mut after = w;
-    if b.len() - end < 4098 {
+    let start = walk.start;
+    let end = walk.end;
+    let mut after = walk;
+    if input.len() - end < 4098 {
         let n = end - start;
-        move_down(b, start, n);
+        move_down(input, start, n);
         after.start = 0;
         after.end = n;
         return after;
     }
-    let n = read(&mut b[end..]);
+    let n = read(&mut input[end..]);
     after.end = end + n;
     after.over = n == 0;
     after
 }
 
 // Writes what the output's buffer holds; where that fails, nothing more is to be done.
-fn flush(w: Walk, o: &[u8]) -> Walk
-    requires { ⌜ Room w (length (now o)) ⌝ }
-    ensures { λ r. ⌜ Stays w r ⌝ }
+fn flush(walk: Walk, output: &[u8]) -> Walk
+    requires { ⌜ Room walk (length (now output)) ⌝ }
+    ensures { λ r. ⌜ Stays walk r ⌝ }
     ensures { λ r. ⌜ r .out ≡ 0 ⌝ }
 {
-    let out = w.out;
-    let mut after = w;
+    let out = walk.out;
+    let mut after = walk;
     after.out = 0;
-    after.done = !io::write_all(STDOUT_FILENO, &o[..out]);
+    after.done = !io::write_all(STDOUT_FILENO, &output[..out]);
     after
 }
 
 // The input has ended and all of it is offered: what the output's buffer holds is all that is owed.
-fn finish(w: Walk) -> Walk
-    requires { ⌜ w .over ≡ true ⌝ }
-    requires { ⌜ w .start ≡ w .end ⌝ }
-    ensures { λ r. ⌜ Stays w r ⌝ }
-    ensures { λ r. ⌜ r .out ≡ w .out ⌝ }
+fn finish(walk: Walk) -> Walk
+    requires { ⌜ walk .over ≡ true ⌝ }
+    requires { ⌜ walk .start ≡ walk .end ⌝ }
+    ensures { λ r. ⌜ Stays walk r ⌝ }
+    ensures { λ r. ⌜ r .out ≡ walk .out ⌝ }
     ensures { λ r. ⌜ ((c : Given) (b o u rest : List ℕ) → Left r b rest → owed c r o u rest ≡ take (r .out) o) ⌝ }
 {
-    let mut after = w;
+    let mut after = walk;
     after.done = true;
     after
 }
 
-fn full(w: Walk, n: usize) -> bool
-    requires { ⌜ Room w n ⌝ }
-    ensures { λ r. ⌜ r ≡ full w n ⌝ }
+fn full(walk: Walk, n: usize) -> bool
+    requires { ⌜ Room walk n ⌝ }
+    ensures { λ r. ⌜ r ≡ full walk n ⌝ }
 {
-    n - w.out < 63
+    n - walk.out < 63
 }
 
-fn ready(w: Walk) -> bool
-    requires { ⌜ w .start ≤ w .end ⌝ }
-    ensures { λ r. ⌜ r ≡ ready w ⌝ }
+fn ready(walk: Walk) -> bool
+    requires { ⌜ walk .start ≤ walk .end ⌝ }
+    ensures { λ r. ⌜ r ≡ ready walk ⌝ }
 {
-    wire::either(w.over, 4098 <= w.end - w.start)
+    wire::either(walk.over, 4098 <= walk.end - walk.start)
 }
 
 // One turn: a flush, more input, the end, or an offer.
-fn turn(c: Settings, w: Walk, b: &mut [u8], o: &mut [u8], unit: &mut [u8]) -> Walk
-    requires { ⌜ Fine w (length (now b)) ⌝ }
-    requires { ⌜ Room w (length (now o)) ⌝ }
-    ensures { λ r. ⌜ Fine r (length (now (b .entry))) ⌝ }
-    ensures { λ r. ⌜ Room r (length (now (o .entry))) ⌝ }
-    ensures { λ r. ⌜ ((rest : List ℕ) → Left r (now (b .exit)) rest →
-        Turned c w (now (b .entry)) (now (o .entry)) (now (unit .entry)) r (now (o .exit)) (now (unit .exit)) rest) ⌝ }
+fn turn(
+    settings: Settings,
+    walk: Walk,
+    input: &mut [u8],
+    output: &mut [u8],
+    unit: &mut [u8],
+) -> Walk
+    requires { ⌜ Fine walk (length (now input)) ⌝ }
+    requires { ⌜ Room walk (length (now output)) ⌝ }
+    ensures { λ r. ⌜ Fine r (length (now (input .entry))) ⌝ }
+    ensures { λ r. ⌜ Room r (length (now (output .entry))) ⌝ }
+    ensures { λ r. ⌜ ((rest : List ℕ) → Left r (now (input .exit)) rest →
+        Turned settings walk (now (input .entry)) (now (output .entry)) (now (unit .entry))
+        r (now (output .exit)) (now (unit .exit)) rest) ⌝ }
 {
-    if full(w, o.len()) {
-        return flush(w, o);
+    if full(walk, output.len()) {
+        return flush(walk, output);
     }
-    if !ready(w) {
-        return refill(w, b);
+    if !ready(walk) {
+        return refill(walk, input);
     }
-    if w.start == w.end {
-        return finish(w);
+    if walk.start == walk.end {
+        return finish(walk);
     }
-    serve(c, w, b, o, unit)
+    serve(settings, walk, input, output, unit)
 }
 
 // At the start of a recording, with a fresh receiver: its listing is owed.
 fn fresh() -> Walk
-    ensures { λ r. ⌜ ((o recording : List ℕ) → owed settings r o (replicate 65535 0) recording ≡ listing recording) ⌝ }
+    ensures { λ r. ⌜ ((o recording : List ℕ) → owed listingSettings r o (replicate 65535 0) recording ≡ listing recording) ⌝ }
     ensures { λ r. ⌜ (Fine r 0) × (Room r 0) ⌝ }
 {
     Walk {
@@ -226,22 +236,22 @@ fn fresh() -> Walk
 }
 
 // A proved loop has to end, and nothing says that the input does: the turns count down from a number that no run uses up.
-fn run(c: Settings, b: &mut [u8], o: &mut [u8], unit: &mut [u8]) {
-    let mut w = fresh();
+fn run(settings: Settings, input: &mut [u8], output: &mut [u8], unit: &mut [u8]) {
+    let mut walk = fresh();
     let mut turns = u64::MAX;
     while turns > 0 {
-        if w.done {
+        if walk.done {
             break;
         }
-        w = turn(c, w, b, o, unit);
+        walk = turn(settings, walk, input, output, unit);
         turns -= 1;
     }
-    let out = w.out;
-    io::write_all(STDOUT_FILENO, &o[..out]);
+    let out = walk.out;
+    io::write_all(STDOUT_FILENO, &output[..out]);
 }
 
-fn settings() -> Settings
-    ensures { λ r. ⌜ r ≡ settings ⌝ }
+fn listing_settings() -> Settings
+    ensures { λ r. ⌜ r ≡ listingSettings ⌝ }
 {
     Settings {
         address: Address {
@@ -258,8 +268,8 @@ fn settings() -> Settings
 }
 
 fn main() {
-    let mut b = io::large_buffer();
-    let mut o = io::large_buffer();
+    let mut input = io::large_buffer();
+    let mut output = io::large_buffer();
     let mut unit = [0; 65535];
-    run(settings(), &mut b, &mut o, &mut unit);
+    run(listing_settings(), &mut input, &mut output, &mut unit);
 }

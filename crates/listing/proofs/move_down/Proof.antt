@@ -10,22 +10,22 @@ use Rattle.listing.proofs.move_down.Statement.{statement}
 use Rattle.listing.proofs.move_down.Tie as tie
 
 abbrev Inv-loop : tie.InvT-loop
-Inv-loop b₀ from n i₀ b i = (i ≤ n) × (length b ≡ length b₀) × (b ≡ take i (drop from b₀) ++ drop i b₀)
+Inv-loop buffer₀ from n i₀ buffer i = (i ≤ n) × (length buffer ≡ length buffer₀) × (buffer ≡ take i (drop from buffer₀) ++ drop i buffer₀)
 
 abbrev μ-loop : tie.MeasureT-loop
-μ-loop b₀ from n i₀ b i = n - i
+μ-loop buffer₀ from n i₀ buffer i = n - i
 
 loop-holds : tie.Need-loop-holds Inv-loop μ-loop
 loop-holds c = (omega arith, refl, refl)
 
-add-b : tie.Need-add-b Inv-loop μ-loop
-add-b c = record { fits = omega (arith, c .before .before .pre, c .before .before .good .0 .0) }
+add-buffer : tie.Need-add-buffer Inv-loop μ-loop
+add-buffer c = record { fits = omega (arith, c .before .before .pre, c .before .before .good .0 .0) }
 
-slice-read-b : tie.Need-slice-read-b Inv-loop μ-loop
-slice-read-b c = omega (arith, c .before .before .before .pre)
+slice-read-buffer : tie.Need-slice-read-buffer Inv-loop μ-loop
+slice-read-buffer c = omega (arith, c .before .before .before .pre)
 
-slice-write-b : tie.Need-slice-write-b Inv-loop μ-loop
-slice-write-b c = omega (arith, c .before .before .before .pre)
+slice-write-buffer : tie.Need-slice-write-buffer Inv-loop μ-loop
+slice-write-buffer c = omega (arith, c .before .before .before .pre)
 
 add-i : tie.Need-add-i Inv-loop μ-loop
 add-i c = omega arith
@@ -37,7 +37,7 @@ loop-again : tie.Need-loop-again Inv-loop μ-loop
 loop-again c =
     let i : ℕ = c .before .before .loop .i in
     let f : ℕ = c .before .before .before .args .from in
-    let d : List ℕ = now (c .before .before .before .args .b) in (
+    let d : List ℕ = now (c .before .before .before .args .buffer) in (
       omega arith,
       simp length-set (c .before .before .loop .inv .1),
       ap (λ (l : List ℕ). set l i (getD l (f + i) 0)) (c .before .before .loop .inv .2) ∙ move-step d f i (omega (arith, c .before .before .before .pre)),
@@ -48,7 +48,7 @@ same-length c = c .before .loop .inv .1
 
 returns : tie.Need-returns Inv-loop μ-loop
 returns c =
-    let d : List ℕ = now (c .before .before .args .b) in
+    let d : List ℕ = now (c .before .before .args .buffer) in
     let e : c .before .loop .i ≡ c .before .before .args .n = omega arith in
     c .before .loop .inv .2 ∙ ap (λ (k : ℕ). take k (drop (c .before .before .args .from) d) ++ drop k d) e
 
@@ -59,9 +59,9 @@ move-down-spec =
     Inv-loop
     μ-loop
     loop-holds
-    add-b
-    slice-read-b
-    slice-write-b
+    add-buffer
+    slice-read-buffer
+    slice-write-buffer
     add-i
     loop-less
     loop-again

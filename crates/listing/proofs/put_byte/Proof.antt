@@ -5,8 +5,8 @@ use borrow.Author.Needs.{needs}
 use Rattle.listing.proofs.put_byte.Statement.{statement}
 use Rattle.listing.proofs.put_byte.Tie as tie
 
-slice-write-o : tie.Need-slice-write-o
-slice-write-o c = search needs
+slice-write-output : tie.Need-slice-write-output
+slice-write-output c = search needs
 
 add-result : tie.Need-add-result
 add-result c = search needs
@@ -15,7 +15,7 @@ same-length : tie.Need-same-length
 same-length c = search needs
 
 returns : tie.Need-returns
-returns c = put-one (now (c .args .o)) (c .args .at) (c .args .byte) (c .pre)
+returns c = put-one (now (c .args .output)) (c .args .at) (c .args .byte) (c .pre)
 
 pub put-byte-spec : {M : Type 1} → statement M
-put-byte-spec = tie.close (tie.spec slice-write-o add-result same-length returns)
+put-byte-spec = tie.close (tie.spec slice-write-output add-result same-length returns)

@@ -23,7 +23,7 @@ returns c =
     let start = c .before .before .before .before .before .before in
     let fine = start .pre .0 in (
       record { order = omega arith; within = omega (arith, fine .within) },
-      kept-move (start .args .w) (now (start .args .b)) _ fine (c .before .before .move-down .ensures),
+      kept-move (start .args .walk) (now (start .args .input)) _ fine (c .before .before .move-down .ensures),
     )
 
 sub-read : tie.Need-sub-read
@@ -48,9 +48,9 @@ returns-2 : tie.Need-returns-2
 returns-2 c =
     let start = c .before .before .before .before .before .before in
     let fine = start .pre .0 in
-    let more = read-within (now (start .args .b)) (start .args .w .end) _ (fine .within) (c .before .before .read .ensures) in (
+    let more = read-within (now (start .args .input)) (start .args .walk .end) _ (fine .within) (c .before .before .read .ensures) in (
       record { order = omega (arith, fine .order); within = more },
-      kept-read (start .args .w) (now (start .args .b)) _ _ _ fine (start .pre .1),
+      kept-read (start .args .walk) (now (start .args .input)) _ _ fine (start .pre .1),
     )
 
 pub refill-spec : {M : Type 1} → statement M

@@ -8,10 +8,10 @@ use Rattle.listing.proofs.run.Statement.{statement}
 use Rattle.listing.proofs.run.Tie as tie
 
 abbrev Inv-loop : tie.InvT-loop
-Inv-loop c b₀ o₀ unit₀ w₀ turns₀ b o unit w turns = Fine w (length b) × Room w (length o) × (length b ≡ length b₀) × (length o ≡ length o₀) × (length unit ≡ length unit₀)
+Inv-loop settings input₀ output₀ unit₀ walk₀ turns₀ input output unit walk turns = Fine walk (length input) × Room walk (length output) × (length input ≡ length input₀) × (length output ≡ length output₀) × (length unit ≡ length unit₀)
 
 abbrev μ-loop : tie.MeasureT-loop
-μ-loop c b₀ o₀ unit₀ w₀ turns₀ b o unit w turns = turns
+μ-loop settings input₀ output₀ unit₀ walk₀ turns₀ input output unit walk turns = turns
 
 fresh-requires : tie.Need-fresh-requires Inv-loop μ-loop
 fresh-requires c κs = tt

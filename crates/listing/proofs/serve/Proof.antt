@@ -22,7 +22,7 @@ add-stop : tie.Need-add-stop
 add-stop c =
     let start = c .before .before .before .before .before in
     let fine = start .pre .0 in
-    let stop = stop-within (now (start .args .b)) (start .args .w .start) (start .args .w .end) _ (fine .order) (fine .within) (c .offer-length .ensures) in
+    let stop = stop-within (now (start .args .input)) (start .args .walk .start) (start .args .walk .end) _ (fine .order) (fine .within) (c .offer-length .ensures) in
     record { fits = omega (arith, stop, fine .within, start .good .1 .1 .0 .0) }
 
 sub-receive : tie.Need-sub-receive
@@ -35,7 +35,7 @@ part-receive-end : tie.Need-part-receive-end
 part-receive-end c =
     let start = c .before .before .before .before .before in
     let fine = start .pre .0 in
-    let stop = stop-within (now (start .args .b)) (start .args .w .start) (start .args .w .end) _ (fine .order) (fine .within) (c .offer-length .ensures) in
+    let stop = stop-within (now (start .args .input)) (start .args .walk .start) (start .args .walk .end) _ (fine .order) (fine .within) (c .offer-length .ensures) in
     omega (arith, stop, fine .within)
 
 receive-requires : tie.Need-receive-requires
@@ -58,9 +58,9 @@ returns c =
     let start = c .before .before .before .before .before .before .before .before .before .before .before .before .before .before .before in
     let fine = start .pre .0 in
     let cut = c .before .before .before .before .before .before .before .before .before .before .offer-length .ensures in
-    let stop = stop-within (now (start .args .b)) (start .args .w .start) (start .args .w .end) _ (fine .order) (fine .within) cut in
+    let stop = stop-within (now (start .args .input)) (start .args .walk .start) (start .args .walk .end) _ (fine .order) (fine .within) cut in
     let text = c .before .before .before .put-line .ensures in (
-      served (start .args .c) (start .args .w) (now (start .args .b)) (now (start .args .unit)) cut (c .before .before .before .before .before .before .before .receive .ensures) text (c .wrapping-add-u64 .ensures),
+      served (start .args .settings) (start .args .walk) (now (start .args .input)) (now (start .args .unit)) cut (c .before .before .before .before .before .before .before .receive .ensures) text (c .wrapping-add-u64 .ensures),
       (record { order = stop; within = fine .within }, omega (arith, text .end, text .room)),
     )
 

@@ -22,8 +22,8 @@ returns c =
     let start = c .before .before .before .before .before .before .before in
     let is-full = was (c .before .before .before .full .ensures) (c .before .before .if1 .taken) in
     let same = c .flush .ensures .0 in (
-      fine-stays (start .args .w) same (start .pre .0),
-      (omega (arith, c .flush .ensures .1), λ rest l. turned-flush (start .args .c) (start .args .w) is-full same (c .flush .ensures .1) l),
+      fine-stays (start .args .walk) same (start .pre .0),
+      (omega (arith, c .flush .ensures .1), λ rest l. turned-flush (start .args .settings) (start .args .walk) is-full same (c .flush .ensures .1) l),
     )
 
 ready-requires : tie.Need-ready-requires
@@ -42,7 +42,7 @@ returns-2 c =
     let not-full = was (c .before .before .before .before .before .before .before .full .ensures) (c .before .before .before .before .before .before .if1 .left) in
     let kept = c .before .before .refill .ensures .1 in (
       c .before .before .refill .ensures .0,
-      (omega (arith, kept .out, start .pre .1), λ rest l. turned-kept (start .args .c) (start .args .w) not-full kept l),
+      (omega (arith, kept .out, start .pre .1), λ rest l. turned-kept (start .args .settings) (start .args .walk) not-full kept l),
     )
 
 finish-requires : tie.Need-finish-requires
@@ -54,9 +54,9 @@ returns-3 c =
     let start = c .before .before .before .before .before .before .before .before .before .before in
     let not-full = was (c .before .before .before .before .before .before .full .ensures) (c .before .before .before .before .before .if1 .left) in
     let same = c .finish .ensures .0 in
-    let kept = kept-stays (start .args .w) (now (start .args .b)) same (c .finish .ensures .1 .0) in (
-      fine-stays (start .args .w) same (start .pre .0),
-      (omega (arith, c .finish .ensures .1 .0, start .pre .1), λ rest l. turned-kept (start .args .c) (start .args .w) not-full kept l),
+    let kept = kept-stays (start .args .walk) (now (start .args .input)) same (c .finish .ensures .1 .0) in (
+      fine-stays (start .args .walk) same (start .pre .0),
+      (omega (arith, c .finish .ensures .1 .0, start .pre .1), λ rest l. turned-kept (start .args .settings) (start .args .walk) not-full kept l),
     )
 
 serve-requires : tie.Need-serve-requires
@@ -85,7 +85,7 @@ returns-4 c =
     let is-ready = was (c .before .before .before .before .before .before .before .before .before .before .before .ready .ensures) (not-false _ (c .before .before .before .before .before .before .before .before .before .before .if2 .left)) in
     let done = c .before .before .before .before .serve .ensures in (
       done .1 .0,
-      (done .1 .1, λ rest l. turned-serve (start .args .c) (start .args .w) (start .pre .0) (done .0) l is-ready (c .before .before .before .before .before .before .before .before .if3 .left) not-full),
+      (done .1 .1, λ rest l. turned-serve (start .args .settings) (start .args .walk) (start .pre .0) (done .0) l is-ready (c .before .before .before .before .before .before .before .before .if3 .left) not-full),
     )
 
 pub turn-spec : {M : Type 1} → statement M
