@@ -2,21 +2,21 @@
 //! caches.
 
 mod machine;
-mod plain;
 
 use std::process::ExitCode;
 use std::time::{Duration, Instant};
 
 use second::random::Random;
+use second::tables;
 
 type Crc32 = fn(&[u8]) -> u32;
 
 /// Called by pointer, all of them, so that the call costs each the same.
 const PROGRAMS: [(&str, Crc32); 4] = [
     ("fossknut", fossknut::crc_32),
-    ("bytewise", plain::bytewise),
-    ("by-8", plain::slicing_by_8),
-    ("by-16", plain::slicing_by_16),
+    ("bytewise", tables::bytewise),
+    ("by-8", tables::slicing_by_8),
+    ("by-16", tables::slicing_by_16),
 ];
 const SIZES: [usize; 5] = [16, 64, 188, 1_024, 4_096];
 /// Many and short, so that on a busy machine most of them run undisturbed.

@@ -25,9 +25,14 @@
 
 #[allow(unsafe_code)]
 mod ffi;
+#[macro_use]
 mod refusal;
+mod receiver;
+mod settings;
 
+pub use receiver::{Answer, Receiver};
 pub use refusal::Refusal;
+pub use settings::Settings;
 
 /// The CRC_32 of ISO/IEC 13818-1 (elsewhere CRC-32/MPEG-2) over all of `bytes`.
 ///
@@ -61,7 +66,7 @@ pub fn crc_32(bytes: &[u8]) -> u32 {
 ///
 /// # Errors
 ///
-/// The first [`Refusal`] that applies, in the order of [`Refusal::ALL`].
+/// The first of the refusals 12 to 19 that applies.
 ///
 /// # Panics
 ///
@@ -70,8 +75,6 @@ pub fn crc_32(bytes: &[u8]) -> u32 {
 pub fn check(section: &[u8]) -> Result<(), Refusal> {
     match ffi::check(section) {
         0 => Ok(()),
-        number => Err(Refusal::from_number(number).unwrap_or_else(|| {
-            panic!("libexports.a is of another version: its check answers {number}")
-        })),
+        number => Err(Refusal::answered(number)),
     }
 }

@@ -1,96 +1,93 @@
-//! Why a section is refused.
+//! Why something is refused.
 
-use std::error::Error;
-use std::fmt;
+/// Defines a type of refusals by their numbers and meanings, which are its documentation, too.
+macro_rules! refusals {
+    ($(#[$meta:meta])* $name:ident { $($refusal:ident = $number:literal, $meaning:literal;)+ }) => {
+        $(#[$meta])*
+        #[derive(Clone, Copy, Debug, PartialEq, Eq, Hash)]
+        #[non_exhaustive]
+        #[repr(u8)]
+        pub enum $name {
+            $(
+                #[doc = concat!(stringify!($number), ": ", $meaning, ".")]
+                $refusal = $number,
+            )+
+        }
 
-/// The first of the checks 12 to 19 that a section does not pass.
-///
-/// Prints as its number and meaning:
-///
-/// ```
-/// let refusal = fossknut::check(&[]).unwrap_err();
-/// assert_eq!(refusal, fossknut::Refusal::TooShort);
-/// assert_eq!(refusal.number(), 12);
-/// assert_eq!(refusal.to_string(), "12: fewer than 16 bytes");
-/// ```
-#[derive(Clone, Copy, Debug, PartialEq, Eq, Hash)]
-#[non_exhaustive]
-#[repr(u8)]
-pub enum Refusal {
-    /// 12: fewer than 16 bytes.
-    TooShort = 12,
-    /// 13: table_id not 0x3E.
-    TableId = 13,
-    /// 14: section_length over 4,093, or not the slice's length minus 3.
-    SectionLength = 14,
-    /// 15: section_syntax_indicator not 1, or private_indicator not 0.
-    Indicators = 15,
-    /// 16: CRC_32 wrong.
-    Crc32 = 16,
-    /// 17: current_next_indicator 0.
-    CurrentNextIndicator = 17,
-    /// 18: section_number above last_section_number.
-    SectionNumber = 18,
-    /// 19: address scrambling not 00.
-    AddressScrambling = 19,
+        impl $name {
+            /// Every refusal, in the order of their numbers.
+            pub const ALL: &'static [$name] = &[$($name::$refusal),+];
+
+            /// The refusal that has this number, if there is one.
+            #[must_use]
+            pub fn from_number(number: u8) -> Option<Self> {
+                Self::ALL
+                    .iter()
+                    .copied()
+                    .find(|refusal| refusal.number() == number)
+            }
+
+            /// The number that the papers give it.
+            #[must_use]
+            pub fn number(self) -> u8 {
+                self as u8
+            }
+
+            /// What is wrong, without the number.
+            #[must_use]
+            pub fn meaning(self) -> &'static str {
+                match self {
+                    $($name::$refusal => $meaning,)+
+                }
+            }
+
+            /// The refusal that the library means by this number, which is no other answer.
+            pub(crate) fn answered(number: u8) -> Self {
+                Self::from_number(number).unwrap_or_else(|| {
+                    panic!("libexports.a is of another version: it answers {number}")
+                })
+            }
+        }
+
+        impl std::fmt::Display for $name {
+            fn fmt(&self, f: &mut std::fmt::Formatter<'_>) -> std::fmt::Result {
+                write!(f, "{}: {}", self.number(), self.meaning())
+            }
+        }
+
+        impl std::error::Error for $name {}
+    };
 }
 
-impl Refusal {
-    /// Every refusal, in the order of the checks.
-    pub const ALL: &'static [Refusal] = &[
-        Refusal::TooShort,
-        Refusal::TableId,
-        Refusal::SectionLength,
-        Refusal::Indicators,
-        Refusal::Crc32,
-        Refusal::CurrentNextIndicator,
-        Refusal::SectionNumber,
-        Refusal::AddressScrambling,
-    ];
-
-    /// The refusal that has this number, if there is one.
+refusals! {
+    /// Why a section is refused: the first of the checks that applies to it.
+    ///
+    /// Prints as its number and meaning:
     ///
     /// ```
     /// use fossknut::Refusal;
-    /// assert_eq!(Refusal::from_number(16), Some(Refusal::Crc32));
+    ///
+    /// let refusal = fossknut::check(&[]).unwrap_err();
+    /// assert_eq!(refusal, Refusal::TooShort);
+    /// assert_eq!(refusal.number(), 12);
+    /// assert_eq!(refusal.to_string(), "12: fewer than 16 bytes");
+    /// assert_eq!(Refusal::from_number(12), Some(refusal));
     /// assert_eq!(Refusal::from_number(0), None);
     /// ```
-    #[must_use]
-    pub fn from_number(number: u8) -> Option<Self> {
-        Self::ALL
-            .iter()
-            .copied()
-            .find(|refusal| refusal.number() == number)
-    }
-
-    /// The number of the check, 12 to 19.
-    #[must_use]
-    pub fn number(self) -> u8 {
-        self as u8
-    }
-
-    /// What is wrong with the section, without the number.
-    #[must_use]
-    pub fn meaning(self) -> &'static str {
-        match self {
-            Refusal::TooShort => "fewer than 16 bytes",
-            Refusal::TableId => "table_id not 0x3E",
-            Refusal::SectionLength => {
-                "section_length over 4,093, or not the slice's length minus 3"
-            }
-            Refusal::Indicators => "section_syntax_indicator not 1, or private_indicator not 0",
-            Refusal::Crc32 => "CRC_32 wrong",
-            Refusal::CurrentNextIndicator => "current_next_indicator 0",
-            Refusal::SectionNumber => "section_number above last_section_number",
-            Refusal::AddressScrambling => "address scrambling not 00",
-        }
+    Refusal {
+        Settings = 10, "range not 1..6, or section limit not 1..255";
+        State = 11, "state neither idle nor good";
+        TooShort = 12, "fewer than 16 bytes";
+        TableId = 13, "table_id not 0x3E";
+        SectionLength = 14, "section_length over 4,093, or not the slice's length minus 3";
+        Indicators = 15, "section_syntax_indicator not 1, or private_indicator not 0";
+        Crc32 = 16, "CRC_32 wrong";
+        CurrentNextIndicator = 17, "current_next_indicator 0";
+        SectionNumber = 18, "section_number above last_section_number";
+        AddressScrambling = 19, "address scrambling not 00";
+        PayloadScrambling = 20, "payload scrambling not 00";
+        LastSectionNumber = 21, "last_section_number + 1 above the section limit";
+        Continuation = 22, "neither number 0 nor the right continuation";
+        Room = 23, "filled length and payload above room";
     }
 }
-
-impl fmt::Display for Refusal {
-    fn fmt(&self, f: &mut fmt::Formatter<'_>) -> fmt::Result {
-        write!(f, "{}: {}", self.number(), self.meaning())
-    }
-}
-
-impl Error for Refusal {}

@@ -1,8 +1,10 @@
 //! Inputs for the tests: sections made as a sender makes them, and faults put into them on purpose.
 
-use crate::crc_32;
+pub mod rows;
+
 use crate::random::Random;
 use crate::section::{BEFORE_LENGTH, CRC_32, HEADER, LONGEST, SHORTEST, TABLE_ID};
+use crate::tables::slicing_by_16 as crc_32;
 
 /// The address of the papers' samples, 02:00:5E:10:20:30.
 pub const OURS: [u8; 6] = [0x02, 0x00, 0x5E, 0x10, 0x20, 0x30];

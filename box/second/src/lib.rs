@@ -1,9 +1,9 @@
 //! The second program: what the papers ask of Fossknut, written from them alone, as plainly as can
 //! be.
 //!
-//! The proved program is held against it. Speed is no aim here, and nothing is shared with the
-//! proved program but the papers: 01 is the customer's paper, READINGS the list of how its open
-//! points are read.
+//! The proved program is held against it. Nothing is shared with the proved program but the papers:
+//! 01 is the customer's paper, READINGS the list of how its open points are read. Speed is no aim
+//! here, save that CRC_32 is taken by tables wherever it is not the question itself.
 
 #![deny(missing_docs)]
 #![forbid(unsafe_code)]
@@ -11,8 +11,11 @@
 mod crc_32;
 pub mod generator;
 pub mod random;
+pub mod receiver;
 pub mod recording;
+pub mod row;
 pub mod section;
+pub mod tables;
 pub mod telling;
 pub mod vectors;
 

@@ -32,6 +32,11 @@ impl Random {
         self.below(turns) == 0
     }
 
+    /// One of `values`.
+    pub fn pick<T: Copy>(&mut self, values: &[T]) -> T {
+        values[self.below(values.len())]
+    }
+
     /// Any byte.
     pub fn byte(&mut self) -> u8 {
         self.number() as u8

@@ -1,6 +1,6 @@
 //! The datagram section (EN 301 192, multiprotocol encapsulation; 01, "The datagram section").
 
-use crate::crc_32;
+use crate::tables::slicing_by_16 as crc_32;
 
 /// table_id of a datagram section.
 pub const TABLE_ID: u8 = 0x3E;

@@ -8,16 +8,17 @@ use mathlib.Core.Bool.{Bool, true, false, not}
 use lib.ListN.{length}
 use lib.Dec.{eqb, leb, ltb}
 use borrow.Author.Tests.{eq-eqb, ne-eqb, leb-true, leb-false, le-ltb, lt-ltb}
+use denote.Ref.{now}
 use Rattle.wire.specs.Choice.{both, first, firstOf, Line, line, numbered, pick}
 use Rattle.wire.proofs.Choice.{firstOf-here, firstOf-past, never, not-first, yes-first}
 use Rattle.rules.specs.declared.Settings.{Settings}
 use Rattle.rules.specs.declared.State.{State}
 use Rattle.rules.specs.declared.State.the-variants.{Idle, Open}
 use Rattle.rules.specs.declared.Answer.the-variants.{Delivered, PassedBy, Refused, Stored}
-use Rattle.rules.specs.Check.{checkLines, faultLines, formLines, orderLines}
+use Rattle.rules.specs.Check.{check, checkLines, faultLines, formLines, orderLines}
 use Rattle.rules.specs.Section.{lastSectionNumber, payload, sectionNumber}
-use Rattle.rules.specs.Step.{barLines, finish, From, goodSettings, goodState, keep, keyOf, laid, lay, lengthOf, Nowhere, numberOf, ours, Outcome, outcome, Place, place, refuse, refuseFirst, room, stepOf}
-use Rattle.demands.specs.Demand1.{ByTable, nowhere, overfull, StepByTable, tableOf}
+use Rattle.rules.specs.Step.{barLines, finish, From, gapOf, goodSettings, goodState, keep, keyOf, laid, lay, lengthOf, Nowhere, numberOf, ours, Outcome, outcome, Place, place, refuse, refuseFirst, room, stepOf}
+use Rattle.demands.specs.Demand1.{ByTable, Demand1, nowhere, overfull, tableOf}
 
 -- ---- a part of the table
 refuse-part : {σ : State} {o : Outcome} (a m : List Line) (b : List ℕ) → numbered a ≡ true → ByTable m σ b o → ByTable (a ++ m) σ b (refuseFirst a b o)
@@ -105,9 +106,19 @@ bar-numbered : (c : Settings) (s : List ℕ) → numbered (barLines c s) ≡ tru
 unfolding numbered both barLines
 bar-numbered c s = refl
 
-pub step-by-table : StepByTable
+step-by-table : (c : Settings) (σ : State) (s b : List ℕ) → ByTable (tableOf c σ s b) σ b (stepOf c σ s b)
 unfolding stepOf tableOf numbered both
 step-by-table c σ s b =
     refuse-part (line 10 (not (goodSettings c)) ∷ line 11 (not (goodState σ)) ∷ []) _ b refl
     (refuse-part (checkLines s) _ b (check-numbered s)
     (pass-part (ours c s) _ b (refuse-part (barLines c s) _ b (bar-numbered c s) (lay-part (place σ s) s b))))
+
+-- ---- the contracts
+pub demand-1 : Demand1
+unfolding check gapOf
+demand-1 =
+    record {
+      check = λ κs a z e p. p;
+      receive = λ κs a z e p. rw (p .step, p .buffer) (step-by-table (a .0) (a .1 .0) (now (a .1 .1 .0)) (now (a .1 .1 .1 .0)));
+      gap = λ κs a z e p. p;
+    }

@@ -25,4 +25,15 @@ tight =
       fault = λ κs a z y e d p q. p ∙ sym q;
       check = λ κs a z y e d p q. p ∙ sym q;
       copy = λ κs a z y e d p q. p ∙ sym q;
+      receive = λ κs a z y e d p q. (p .step ∙ sym (q .step), p .buffer ∙ sym (q .buffer));
+      pes-read = λ κs a z y e d p q. p ∙ sym q;
+      pes-data = λ κs a z y e d p q. (p .bytes ∙ sym (q .bytes), p .block ∙ sym (q .block), p .place ∙ sym (q .place));
+      fossknut-crc-32 = λ κs a z y e d p q. p ∙ sym q;
+      fossknut-check = λ κs a z y e d p q. p ∙ sym q;
+      fossknut-receive = λ κs a z y e d p q.
+          (p .answer ∙ sym (q .answer), p .state ∙ sym (q .state), p .buffer ∙ sym (q .buffer), p .unit ∙ sym (q .unit));
+      fossknut-gap = λ κs a z y e d p q. p ∙ sym q;
+      gap = λ κs a z y e d p q. p ∙ sym q;
+      number-of = λ κs a z y e d p q. p ∙ sym q;
+      length-of = λ κs a z y e d p q. p ∙ sym q;
     }

@@ -6,6 +6,10 @@ use mathlib.Core.List.{List, [], _∷_, _++_}
 use mathlib.Core.Bool.{Bool, true, false, not}
 use lib.ListN.{length}
 use lib.Dec.{ltb}
+use contract.Lifetimes.{Lfts}
+use denote.Ref.{now}
+use denote.Triple.Clauses.{AtExit}
+use borrow.Fn.Kinds.{Dens, resT, endedOf}
 use Rattle.wire.specs.Choice.{Line, line, firstOf}
 use Rattle.rules.specs.declared.Settings.{Settings}
 use Rattle.rules.specs.declared.State.{State}
@@ -14,6 +18,12 @@ use Rattle.rules.specs.declared.Answer.the-variants.{PassedBy, Refused}
 use Rattle.rules.specs.Check.{checkLines}
 use Rattle.rules.specs.Section.{payload}
 use Rattle.rules.specs.Step.{barLines, From, goodSettings, goodState, lengthOf, Nowhere, numberOf, ours, Outcome, Place, place, room, stepOf}
+use Rattle.section.proofs.check.Reads as check-reads
+use Rattle.section.proofs.check.Kinds as check-kinds
+use Rattle.receiver.proofs.receive.Reads as receive-reads
+use Rattle.receiver.proofs.receive.Kinds as receive-kinds
+use Rattle.receiver.proofs.gap.Reads as gap-reads
+use Rattle.receiver.proofs.gap.Kinds as gap-kinds
 
 -- ---- the table of document 01, 'The receiver', with 2 at its place
 -- 22: neither number 0 nor the right continuation
@@ -44,5 +54,16 @@ pub record ByTable (table : List Line) (σ : State) (b : List ℕ) (o : Outcome)
   -- a section that is passed by leaves everything as it is
   pub passed : o .step .answer ≡ PassedBy → (lengthOf (o .step .answer) ≡ 0) × (o .step .state ≡ σ) × (o .buffer ≡ b)
 
-abbrev pub StepByTable : Type 0
-StepByTable = (c : Settings) (σ : State) (s b : List ℕ) → ByTable (tableOf c σ s b) σ b (stepOf c σ s b)
+-- ---- what the contracts of the code allow
+pub record Demand1 : Type 0 where
+  -- the check's number is the first of 12 to 19 that applies, else 0
+  pub check : (κs : Lfts 1) (a : Dens κs check-kinds.ps) (z : resT check-kinds.r κs .Denot) (e : AtExit (endedOf 1 check-kinds.ps check-kinds.r) κs)
+      → check-reads.Learnt κs a z e → z ≡ firstOf (checkLines (now (a .0)))
+  -- the step, for all settings, states, sections and buffers
+  pub receive : (κs : Lfts 2) (a : Dens κs receive-kinds.ps) (z : resT receive-kinds.r κs .Denot)
+      (e : AtExit (endedOf 2 receive-kinds.ps receive-kinds.r) κs) → receive-reads.Learnt κs a z e
+      → ByTable (tableOf (a .0) (a .1 .0) (now (a .1 .1 .0)) (now (a .1 .1 .1 .0))) (a .1 .0) (now (a .1 .1 .1 .0))
+      (record { step = z; buffer = now (e .1 .1 .1 .0) })
+  -- a gap notice makes any state idle and is never refused
+  pub gap : (κs : Lfts 0) (a : Dens κs gap-kinds.ps) (z : resT gap-kinds.r κs .Denot) (e : AtExit (endedOf 0 gap-kinds.ps gap-kinds.r) κs)
+      → gap-reads.Learnt κs a z e → z ≡ Idle

@@ -4,11 +4,32 @@ use Prim.Native.Nat.{ℕ}
 use mathlib.Core.Path.{_≡_}
 use mathlib.Core.List.{List}
 use contract.Lifetimes.{Lfts}
-use denote.Ref.{now}
+use denote.Ref.{now, ptr}
 use denote.Triple.Clauses.{AtExit}
 use borrow.Fn.Kinds.{PK, RK, Dens, resT, endedOf}
 use Rattle.wire.proofs.copy.Reads as copy-reads
 use Rattle.wire.proofs.copy.Kinds as copy-kinds
+use Rattle.pes.proofs.read.Reads as pes-read-reads
+use Rattle.pes.proofs.read.Kinds as pes-read-kinds
+use Rattle.pes.proofs.data.Reads as pes-data-reads
+use Rattle.pes.proofs.data.Kinds as pes-data-kinds
+use Rattle.exports.proofs.fossknut_crc_32.Reads as fossknut-crc-32-reads
+use Rattle.exports.proofs.fossknut_crc_32.Kinds as fossknut-crc-32-kinds
+use Rattle.exports.proofs.fossknut_check.Reads as fossknut-check-reads
+use Rattle.exports.proofs.fossknut_check.Kinds as fossknut-check-kinds
+use Rattle.exports.proofs.fossknut_receive.Reads as fossknut-receive-reads
+use Rattle.exports.proofs.fossknut_receive.Kinds as fossknut-receive-kinds
+use Rattle.exports.proofs.fossknut_gap.Reads as fossknut-gap-reads
+use Rattle.exports.proofs.fossknut_gap.Kinds as fossknut-gap-kinds
+use Rattle.exports.specs.Numbers.{numbers}
+use Rattle.receiver.proofs.receive.Reads as receive-reads
+use Rattle.receiver.proofs.receive.Kinds as receive-kinds
+use Rattle.receiver.proofs.gap.Reads as gap-reads
+use Rattle.receiver.proofs.gap.Kinds as gap-kinds
+use Rattle.receiver.proofs.number_of.Reads as number-of-reads
+use Rattle.receiver.proofs.number_of.Kinds as number-of-kinds
+use Rattle.receiver.proofs.length_of.Reads as length-of-reads
+use Rattle.receiver.proofs.length_of.Kinds as length-of-kinds
 use Rattle.wire.proofs.byte_at.Reads as byte-at-reads
 use Rattle.wire.proofs.byte_at.Kinds as byte-at-kinds
 use Rattle.wire.proofs.u16_at.Reads as u16-at-reads
@@ -62,6 +83,35 @@ CopyTight =
     (κs : Lfts 2) (a : Dens κs copy-kinds.ps) (z y : resT copy-kinds.r κs .Denot) (e d : AtExit (endedOf 2 copy-kinds.ps copy-kinds.r) κs)
     → copy-reads.Learnt κs a z e → copy-reads.Learnt κs a y d → now (e .1 .0) ≡ now (d .1 .0)
 
+-- what `receive` answers, the state after, and what it leaves in the buffer
+abbrev pub ReceiveTight : Type 0
+ReceiveTight =
+    (κs : Lfts 2) (a : Dens κs receive-kinds.ps) (z y : resT receive-kinds.r κs .Denot)
+    (e d : AtExit (endedOf 2 receive-kinds.ps receive-kinds.r) κs)
+    → receive-reads.Learnt κs a z e → receive-reads.Learnt κs a y d → (z ≡ y) × (now (e .1 .1 .1 .0) ≡ now (d .1 .1 .1 .0))
+
+-- which part of the packet `data` hands out: its bytes, its block and its place
+abbrev pub DataTight : Type 0
+DataTight =
+    (κs : Lfts 1) (a : Dens κs pes-data-kinds.ps) (z y : resT pes-data-kinds.r κs .Denot) (e d : AtExit (endedOf 1 pes-data-kinds.ps pes-data-kinds.r) κs)
+    → pes-data-reads.Learnt κs a z e → pes-data-reads.Learnt κs a y d → (now z ≡ now y) × (ptr z .0 ≡ ptr y .0) × (ptr z .1 ≡ ptr y .1)
+
+-- the numbers of a state that a foreign caller is given back, the buffer and the length
+abbrev pub ForeignReceiveTight : Type 0
+ForeignReceiveTight =
+    (κs : Lfts 8) (a : Dens κs fossknut-receive-kinds.ps) (z y : resT fossknut-receive-kinds.r κs .Denot)
+    (e d : AtExit (endedOf 8 fossknut-receive-kinds.ps fossknut-receive-kinds.r) κs)
+    → fossknut-receive-reads.Learnt κs a z e → fossknut-receive-reads.Learnt κs a y d
+    → (z ≡ y) × (numbers (now (e .1 .1 .1 .1 .1 .1 .1 .1 .0)) (now (e .1 .1 .1 .1 .1 .1 .1 .1 .1 .0)) (now (e .1 .1 .1 .1 .1 .1 .1 .1 .1 .1 .0)) (now (e .1 .1 .1 .1 .1 .1 .1 .1 .1 .1 .1 .0)) (now (e .1 .1 .1 .1 .1 .1 .1 .1 .1 .1 .1 .1 .0)) ≡ numbers (now (d .1 .1 .1 .1 .1 .1 .1 .1 .0)) (now (d .1 .1 .1 .1 .1 .1 .1 .1 .1 .0)) (now (d .1 .1 .1 .1 .1 .1 .1 .1 .1 .1 .0)) (now (d .1 .1 .1 .1 .1 .1 .1 .1 .1 .1 .1 .0)) (now (d .1 .1 .1 .1 .1 .1 .1 .1 .1 .1 .1 .1 .0)))
+    × (now (e .1 .1 .1 .1 .1 .1 .1 .1 .1 .1 .1 .1 .1 .1 .0) ≡ now (d .1 .1 .1 .1 .1 .1 .1 .1 .1 .1 .1 .1 .1 .1 .0)) × (now (e .1 .1 .1 .1 .1 .1 .1 .1 .1 .1 .1 .1 .1 .1 .1 .0) ≡ now (d .1 .1 .1 .1 .1 .1 .1 .1 .1 .1 .1 .1 .1 .1 .1 .0))
+
+abbrev pub ForeignGapTight : Type 0
+ForeignGapTight =
+    (κs : Lfts 5) (a : Dens κs fossknut-gap-kinds.ps) (z y : resT fossknut-gap-kinds.r κs .Denot)
+    (e d : AtExit (endedOf 5 fossknut-gap-kinds.ps fossknut-gap-kinds.r) κs)
+    → fossknut-gap-reads.Learnt κs a z e → fossknut-gap-reads.Learnt κs a y d
+    → numbers (now (e .0)) (now (e .1 .0)) (now (e .1 .1 .0)) (now (e .1 .1 .1 .0)) (now (e .1 .1 .1 .1 .0)) ≡ numbers (now (d .0)) (now (d .1 .0)) (now (d .1 .1 .0)) (now (d .1 .1 .1 .0)) (now (d .1 .1 .1 .1 .0))
+
 pub record Tight : Type 0 where
   -- wire
   pub byte-at : OneResult 1 byte-at-kinds.ps byte-at-kinds.r byte-at-reads.Learnt
@@ -86,3 +136,16 @@ pub record Tight : Type 0 where
   pub header : OneResult 0 header-kinds.ps header-kinds.r header-reads.Learnt
   pub fault : OneResult 1 fault-kinds.ps fault-kinds.r fault-reads.Learnt
   pub check : OneResult 1 check-kinds.ps check-kinds.r check-reads.Learnt
+  -- receiver
+  pub receive : ReceiveTight
+  pub gap : OneResult 0 gap-kinds.ps gap-kinds.r gap-reads.Learnt
+  pub number-of : OneResult 0 number-of-kinds.ps number-of-kinds.r number-of-reads.Learnt
+  pub length-of : OneResult 0 length-of-kinds.ps length-of-kinds.r length-of-reads.Learnt
+  -- pes
+  pub pes-read : OneResult 1 pes-read-kinds.ps pes-read-kinds.r pes-read-reads.Learnt
+  pub pes-data : DataTight
+  -- exports
+  pub fossknut-crc-32 : OneResult 1 fossknut-crc-32-kinds.ps fossknut-crc-32-kinds.r fossknut-crc-32-reads.Learnt
+  pub fossknut-check : OneResult 1 fossknut-check-kinds.ps fossknut-check-kinds.r fossknut-check-reads.Learnt
+  pub fossknut-receive : ForeignReceiveTight
+  pub fossknut-gap : ForeignGapTight

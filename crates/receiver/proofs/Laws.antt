@@ -13,7 +13,7 @@ use Rattle.wire.specs.Bytes.{over}
 use Rattle.wire.specs.Choice.{pick, both, Line, firstOf}
 use Rattle.wire.proofs.Choice.{never}
 use Rattle.rules.specs.declared.Step.{Step}
-use Rattle.rules.specs.Step.{Outcome, Does, Place, lay, refuse, refuseFirst}
+use Rattle.rules.specs.Step.{Outcome, Does, refuse, refuseFirst}
 
 pub does-yes : {t : Bool} {r : Step} {b : List ℕ} (a o : Outcome) → t ≡ true → Does a r b → Does (pick t a o) r b
 unfolding pick
@@ -42,7 +42,9 @@ store-is f p b d h e =
     let l : length (drop f b) ≡ length b - f = length-drop f b in
     let m : length (drop f b) ≤ length b - f = omega arith in
     let k : length p ≤ length (drop f b) = omega arith in
-    rw (e, take-all (length b - f) (drop f b) m, drop-of-length-le (drop f b) m, take-all (length (drop f b)) p k, append-nil, drop-drop, take-length, append-assoc)
+    let whole = take-all (length b - f) (drop f b) m in
+    let all = take-all (length (drop f b)) p k in
+    rw (e, whole, drop-of-length-le (drop f b) m, all, append-nil, drop-drop, take-length, append-assoc)
 
 -- a sum is within a bound that its first part is within
 pub leb-shift : (f n m : ℕ) → f ≤ m → leb n (m - f) ≡ leb (f + n) m
@@ -64,7 +66,3 @@ next-small e l h =
     let p : e ≤ l = leb-true _ _ (t .0) in
     let q : l ≤ 254 = leb-true _ _ (t .1) in
     omega arith
-
--- what is laid where a section's payload goes
-pub does-lay : {p q : Place} {r : Step} (s b d : List ℕ) → p ≡ q → Does (lay q s b) r d → Does (lay p s b) r d
-does-lay s b d e h = rw e h

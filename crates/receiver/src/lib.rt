@@ -4,19 +4,24 @@ use rules::Key;
 use rules::Settings;
 use rules::State;
 use rules::Step;
+use section::fields::address;
 use section::fields::last_section_number;
+use section::fields::llc_snap_flag;
+use section::fields::payload_scrambling_control;
+use section::fields::same_address;
 use section::fields::section_number;
 use wire::both;
 use wire::first;
 ghost use mathlib.Core.Path.{_≡_};
+ghost use mathlib.Core.Bool.{not};
 ghost use mathlib.Core.List.{List};
 ghost use Prim.Native.Nat.{ℕ, _+_, _≤_};
 ghost use lib.ListN.{length};
 ghost use lib.Dec.{leb};
-ghost use mathlib.Core.Bool.{not};
 ghost use Rattle.wire.specs.Choice.{first};
 ghost use Rattle.rules.specs.Section.{payload};
-ghost use Rattle.rules.specs.Step.{numberOf, lengthOf, goodSettings, goodRun, goodState, keyOf, sameKey, continues, From, onward, place, ours, payloadScrambled, overLimit, bar, room, refuse, laid, finish, keep, lay, stepOf, gapOf, Does};
+ghost use Rattle.rules.specs.Step.{numberOf, lengthOf, goodSettings, goodRun, goodState, keyOf, sameKey, continues, From, onward, place};
+ghost use Rattle.rules.specs.Step.{ours, payloadScrambled, overLimit, bar, room, refuse, laid, finish, keep, lay, stepOf, gapOf, Does};
 
 // The paper's number of an answer.
 pub fn number_of(answer: Answer) -> u8
@@ -35,19 +40,11 @@ pub fn length_of(answer: Answer) -> usize
     ensures { λ r. ⌜ r ≡ lengthOf answer ⌝ }
 {
     match answer {
-        Answer::Delivered(length) => length,
+        Answer::Delivered(filled) => filled,
         Answer::Stored => 0,
         Answer::PassedBy => 0,
         Answer::Refused(_) => 0,
     }
-}
-
-fn good_settings(settings: Settings) -> bool
-    ensures { λ r. ⌜ r ≡ goodSettings settings ⌝ }
-{
-    let range = settings.range;
-    let limit = settings.limit;
-    both(both(1 <= range, range <= 6), both(1 <= limit, limit <= 255))
 }
 
 // The product is computed only where it is small.
@@ -75,7 +72,7 @@ fn key_of(s: &[u8]) -> Key
 {
     Key {
         last: last_section_number(s) as usize,
-        flag: section::fields::llc_snap_flag(s),
+        flag: llc_snap_flag(s),
     }
 }
 
@@ -94,17 +91,13 @@ fn continues(next: usize, key: Key, s: &[u8]) -> bool
 fn ours(settings: Settings, s: &[u8]) -> bool
     ensures { λ r. ⌜ r ≡ ours settings (now (s .entry)) ⌝ }
 {
-    section::fields::same_address(
-        settings.range,
-        settings.address,
-        section::fields::address(s),
-    )
+    same_address(settings.range, settings.address, address(s))
 }
 
 fn payload_scrambled(s: &[u8]) -> bool
     ensures { λ r. ⌜ r ≡ payloadScrambled (now (s .entry)) ⌝ }
 {
-    section::fields::payload_scrambling_control(s) != 0
+    payload_scrambling_control(s) != 0
 }
 
 fn over_limit(settings: Settings, s: &[u8]) -> bool
@@ -135,7 +128,7 @@ fn payload(s: &[u8]) -> &[u8]
     &s[12..end]
 }
 
-// A refusal, whatever the buffer has.
+// A refusal drops the run, whatever the buffer has.
 fn refuse(number: u8) -> Step
     ensures { λ r. ⌜ ((b : List ℕ) → Does (refuse number b) r b) ⌝ }
 {
@@ -145,7 +138,15 @@ fn refuse(number: u8) -> Step
     }
 }
 
-// The unit is delivered, whatever the buffer has.
+// Lays the payload over the buffer from f on, and writes no other byte.
+fn store(f: usize, s: &[u8], buffer: &mut [u8])
+    requires { ⌜ f + length (payload (now s)) ≤ length (now buffer) ⌝ }
+    ensures { λ _. ⌜ now (buffer .exit) ≡ laid f (now (s .entry)) (now (buffer .entry)) ⌝ }
+{
+    wire::copy(payload(s), &mut buffer[f..]);
+}
+
+// The unit is delivered with the length that is filled, whatever the buffer has.
 fn finish(filled: usize) -> Step
     ensures { λ r. ⌜ ((b : List ℕ) → Does (finish filled b) r b) ⌝ }
 {
@@ -153,14 +154,6 @@ fn finish(filled: usize) -> Step
         answer: Answer::Delivered(filled),
         state: State::Idle,
     }
-}
-
-// Stores the payload at f.
-fn store(f: usize, s: &[u8], buffer: &mut [u8])
-    requires { ⌜ f + length (payload (now s)) ≤ length (now buffer) ⌝ }
-    ensures { λ _. ⌜ now (buffer .exit) ≡ laid f (now (s .entry)) (now (buffer .entry)) ⌝ }
-{
-    wire::copy(payload(s), &mut buffer[f..]);
 }
 
 // Stores a payload that fits. After the last section the unit is finished, else the run is open.
@@ -231,7 +224,7 @@ fn unfit(settings: Settings, state: State) -> u8
     ensures { λ r. ⌜ r ≡ first (not (goodSettings settings)) 10 (first (not (goodState state)) 11 0) ⌝ }
 {
     first(
-        !good_settings(settings),
+        !section::settings::good_settings(settings),
         10,
         first(!good_state(state), 11, 0),
     )

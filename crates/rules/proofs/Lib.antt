@@ -1,5 +1,7 @@
 pub mod Check
 pub mod Crc
+pub mod Cut
+pub mod Demand2
 pub mod Due
 pub mod Finish
 pub mod Keys
@@ -7,6 +9,7 @@ pub mod Lists
 pub mod Offer
 pub mod Row
 pub mod Runs
+pub mod Send
 pub mod Sound
 pub mod Track
 pub mod Written

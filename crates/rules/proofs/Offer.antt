@@ -62,7 +62,7 @@ offer-window n r (inl h) = go (decLe (length r) n)
         ∙ omega (arith, l, s, sectionLength-below r, offer-long r (omega arith))
 
 -- ---- the offers one by one
-within-more : (k : ℕ) (r : List ℕ) → 0 < length r
+pub within-more : (k : ℕ) (r : List ℕ) → 0 < length r
     → offersWithin (suc k) r ≡ take (offerLength r) r ∷ offersWithin k (drop (offerLength r) r)
 unfolding offersWithin pick
 within-more k r some = rw (ne-eqb (length r) 0 (λ z. omega arith))

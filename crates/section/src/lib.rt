@@ -2,6 +2,7 @@
 pub mod cut;
 pub mod fields;
 pub mod header;
+pub mod settings;
 
 use fields::last_section_number;
 use fields::section_length;

@@ -6,7 +6,7 @@ use second::generator::{
     any_sound, faulty, seal, set_section_length, sets_of_checks, sound, CHECKS, OURS,
 };
 use second::random::Random;
-use second::telling::telling;
+use second::telling;
 
 impl Library {
     /// The library's answer, which has to be the second program's.
@@ -27,7 +27,7 @@ fn sound_of(random: &mut Random, length: usize) -> Vec<u8> {
 #[test]
 fn telling_inputs() {
     let mut library = Library::new();
-    for telling in telling() {
+    for telling in telling::sections() {
         assert_eq!(
             library.agreed(&telling.bytes),
             telling.number,

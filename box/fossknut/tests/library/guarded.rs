@@ -1,4 +1,5 @@
-//! Memory whose neighbours may not be touched: a read beyond a slice ends the test with a signal.
+//! Memory whose neighbours may not be touched: a read or write beyond a slice ends the test with a
+//! signal.
 
 use std::ffi::c_void;
 use std::os::raw::c_int;
@@ -56,16 +57,16 @@ impl Guarded {
     }
 
     /// A copy of `bytes` that ends where the memory does.
-    pub fn at_end(&mut self, bytes: &[u8]) -> &[u8] {
+    pub fn at_end(&mut self, bytes: &[u8]) -> &mut [u8] {
         self.copy(LENGTH - bytes.len(), bytes)
     }
 
     /// A copy of `bytes` that starts where the memory does.
-    pub fn at_start(&mut self, bytes: &[u8]) -> &[u8] {
+    pub fn at_start(&mut self, bytes: &[u8]) -> &mut [u8] {
         self.copy(0, bytes)
     }
 
-    fn copy(&mut self, offset: usize, bytes: &[u8]) -> &[u8] {
+    fn copy(&mut self, offset: usize, bytes: &[u8]) -> &mut [u8] {
         // SAFETY: the middle third is ours alone as long as `self` is.
         let memory = unsafe { slice::from_raw_parts_mut(self.start, LENGTH) };
         let place = &mut memory[offset..][..bytes.len()];

@@ -2,11 +2,25 @@
 
 mod check;
 mod crc_32;
+// The very file of the wrapper: what it keeps for itself, the tests call with any numbers.
+#[allow(dead_code)]
+#[path = "../../src/ffi.rs"]
+mod ffi;
 mod guarded;
+mod receiver;
 mod refusal;
 
-use fossknut::Refusal;
+use fossknut::{Refusal, Settings};
 use guarded::Guarded;
+
+/// The wrapper's settings for the second program's.
+fn settings(second: &second::receiver::Settings) -> Settings {
+    Settings {
+        address: second.address,
+        range: second.range,
+        limit: second.limit,
+    }
+}
 
 /// The library, called only on slices whose ends are guarded, and held to leave them as they were.
 struct Library {

@@ -1,10 +1,9 @@
 -- The place is 0 at number 0, and onward at any other.
-use mathlib.Core.Path.{refl, sym, _∙_}
-use denote.Ref.{now}
+use mathlib.Core.Path.{_∙_}
 use borrow.Author.Tests.{eq-eqb, ne-eqb}
-use Rattle.wire.proofs.Choice.{yes-pick, not-pick, was}
+use Rattle.wire.specs.Choice.{pick}
+use Rattle.wire.proofs.Choice.{was}
 use Rattle.rules.specs.Step.{place}
-use Rattle.receiver.proofs.Laws.{does-lay}
 use borrow.Author.Needs.{needs}
 use Rattle.receiver.proofs.accept.Statement.{statement}
 use Rattle.receiver.proofs.accept.Tie as tie
@@ -19,10 +18,10 @@ same-length : tie.Need-same-length
 same-length c = search needs
 
 returns : tie.Need-returns
-unfolding place
+unfolding place pick
 returns c =
-    let number = was (c .before .before .before .before .before .section-number .ensures) (c .before .before .before .before .if1 .taken) in
-    does-lay (now (c .before .before .before .before .before .before .before .before .args .s)) _ _ (sym (yes-pick _ _ (eq-eqb _ _ number) refl)) (c .before .before .lay .ensures)
+    let zero = c .before .before .before .before in
+    rw (eq-eqb _ _ (was (zero .before .section-number .ensures) (zero .if1 .taken))) (c .before .before .lay .ensures)
 
 continue-run-requires : tie.Need-continue-run-requires
 continue-run-requires c κs = search needs
@@ -31,10 +30,10 @@ same-length-2 : tie.Need-same-length-2
 same-length-2 c = search needs
 
 returns-2 : tie.Need-returns-2
-unfolding place
+unfolding place pick
 returns-2 c =
-    let number = c .before .before .before .before .before .section-number .ensures in
-    does-lay (now (c .before .before .before .before .before .before .before .before .args .s)) _ _ (sym (not-pick _ _ (ne-eqb _ _ (λ z. c .before .before .before .before .if1 .left (number ∙ z))) refl)) (c .before .before .continue-run .ensures)
+    let other = c .before .before .before .before in
+    rw (ne-eqb _ _ (λ z. other .if1 .left (other .before .section-number .ensures ∙ z))) (c .before .before .continue-run .ensures)
 
 pub accept-spec : {M : Type 1} → statement M
 accept-spec =

@@ -1,4 +1,5 @@
 -- The code computes the definition.
+use mathlib.Core.Path.{_∙_}
 use Rattle.rules.specs.Step.{bar}
 use Rattle.rules.specs.Step.{barLines}
 use Rattle.wire.specs.Choice.{firstOf}
@@ -20,7 +21,9 @@ first-requires-2 c κs = search needs
 
 returns : tie.Need-returns
 unfolding bar barLines firstOf
-returns c = cc
+returns c =
+    let limit = c .before .before in
+    c .first2 .ensures ∙ rw (c .before .first .ensures, limit .over-limit .ensures, limit .before .payload-scrambled .ensures)
 
 pub bar-spec : {M : Type 1} → statement M
 bar-spec =

@@ -1,10 +1,7 @@
 -- An idle state has no place; an open one has it where the section continues the run.
-use mathlib.Core.Path.{refl, ap, _∙_, sym}
-use denote.Ref.{now}
-use Rattle.wire.proofs.Choice.{yes-pick, not-pick, was}
-use Rattle.rules.specs.declared.State.{State}
-use Rattle.rules.specs.Step.{onward, lay, Nowhere}
-use Rattle.receiver.proofs.Laws.{does-lay}
+use Rattle.wire.specs.Choice.{pick}
+use Rattle.wire.proofs.Choice.{was}
+use Rattle.rules.specs.Step.{onward, lay}
 use borrow.Author.Needs.{needs}
 use Rattle.receiver.proofs.continue_run.Statement.{statement}
 use Rattle.receiver.proofs.continue_run.Tie as tie
@@ -20,9 +17,7 @@ refuse-requires c κs = search needs
 
 returns : tie.Need-returns
 unfolding onward lay
-returns c =
-    let a = c .before .before .before .before .before .args in
-    does-lay (now (a .s)) _ _ (ap (λ (σ : State). onward σ (now (a .s))) (c .before .enum-told .given .1)) (c .refuse .ensures _)
+returns c = rw (c .before .enum-told .given .1) (c .refuse .ensures _)
 
 continues-requires : tie.Need-continues-requires
 continues-requires c κs = search needs
@@ -34,23 +29,21 @@ same-length : tie.Need-same-length
 same-length c = search needs
 
 returns-2 : tie.Need-returns-2
-unfolding onward lay
+unfolding onward pick
 returns-2 c =
-    let a = c .before .before .before .before .before .before .before .before .before .before .before .args in
-    does-lay (now (a .s)) _ _
-    (ap (λ (σ : State). onward σ (now (a .s))) (c .before .before .before .before .before .before .before .state .given .1) ∙ sym (yes-pick _ _ (was (c .before .before .before .before .before .continues .ensures) (c .before .before .before .before .if1 .taken)) refl))
-    (c .before .before .lay .ensures)
+    let goes = c .before .before .before .before in
+    let opened = goes .before .before .before in
+    rw (opened .state .given .1, was (goes .before .continues .ensures) (goes .if1 .taken)) (c .before .before .lay .ensures)
 
 refuse-requires-2 : tie.Need-refuse-requires-2
 refuse-requires-2 c κs = search needs
 
 returns-3 : tie.Need-returns-3
-unfolding onward lay
+unfolding onward pick lay
 returns-3 c =
-    let a = c .before .before .before .before .before .before .before .before .args in
-    does-lay {q = Nowhere} (now (a .s)) _ _
-    (ap (λ (σ : State). onward σ (now (a .s))) (c .before .before .before .before .state .given .1) ∙ sym (not-pick _ _ (was (c .before .before .continues .ensures) (c .before .if1 .left)) refl))
-    (c .refuse2 .ensures _)
+    let stops = c .before in
+    let opened = stops .before .before .before in
+    rw (opened .state .given .1, was (stops .before .continues .ensures) (stops .if1 .left)) (c .refuse2 .ensures _)
 
 pub continue-run-spec : {M : Type 1} → statement M
 continue-run-spec =

@@ -1,4 +1,5 @@
 -- The code computes the definition.
+use mathlib.Core.Path.{_∙_}
 use Rattle.rules.specs.Step.{continues}
 use borrow.Author.Needs.{needs}
 use Rattle.receiver.proofs.continues.Statement.{statement}
@@ -21,7 +22,9 @@ both-requires c κs = search needs
 
 returns : tie.Need-returns
 unfolding continues
-returns c = cc
+returns c =
+    let key = c .before .before in
+    c .both .ensures ∙ rw (c .before .same-key .ensures, key .key-of .ensures, key .before .section-number .ensures)
 
 pub continues-spec : {M : Type 1} → statement M
 continues-spec =

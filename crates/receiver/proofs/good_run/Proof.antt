@@ -13,7 +13,8 @@ use Rattle.receiver.proofs.good_run.Tie as tie
 
 -- the test of the two numbers
 numbers : (x : tie.After-both2)
-    → let a = x .before .before .args in x .both2 .result ≡ both (leb 1 (a .next)) (both (leb (a .next) (a .last)) (leb (a .last) 254))
+    → let a = x .before .before .args in
+    x .both2 .result ≡ both (leb 1 (a .next)) (both (leb (a .next) (a .last)) (leb (a .last) 254))
 numbers x = x .both2 .ensures ∙ rw (x .before .both .ensures)
 
 both-requires : tie.Need-both-requires
@@ -27,7 +28,9 @@ unfolding goodRun
 returns c = not-both _ (was (numbers (c .before)) (not-true _ (c .if1 .taken)))
 
 mul-both : tie.Need-mul-both
-mul-both c = let a = c .before .before .before .args in omega (arith, next-small (a .next) (a .last) (was (numbers (c .before)) (not-false _ (c .if1 .left))))
+mul-both c =
+    let a = c .before .before .before .args in
+    omega (arith, next-small (a .next) (a .last) (was (numbers (c .before)) (not-false _ (c .if1 .left))))
 
 both-requires-3 : tie.Need-both-requires-3
 both-requires-3 c κs = search needs

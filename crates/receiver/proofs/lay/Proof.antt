@@ -5,16 +5,17 @@ use lib.ListN.{length}
 use lib.Dec.{leb}
 use denote.Ref.{now}
 use borrow.Author.Tests.{leb-true}
+use Rattle.wire.specs.Choice.{pick}
 use Rattle.wire.proofs.Choice.{was}
 use Rattle.rules.specs.Section.{payload}
 use Rattle.rules.specs.Step.{room, lay}
-use Rattle.receiver.proofs.Laws.{does-yes, does-not}
 use borrow.Author.Needs.{needs}
 use Rattle.receiver.proofs.lay.Statement.{statement}
 use Rattle.receiver.proofs.lay.Tie as tie
 
 test : (x : tie.After-fits2)
-    → let a = x .before .before .before .before .before .args in x .fits2 .result ≡ leb (a .f + length (payload (now (a .s)))) (room (now (a .buffer)))
+    → let a = x .before .before .before .before .before .args in
+    x .fits2 .result ≡ leb (a .f + length (payload (now (a .s)))) (room (now (a .buffer)))
 unfolding room
 test x = x .fits2 .ensures ∙ rw (x .before .payload .ensures, x .before .before .smaller .ensures)
 
@@ -34,15 +35,17 @@ same-length : tie.Need-same-length
 same-length c = search needs
 
 returns : tie.Need-returns
-unfolding lay
-returns c = does-yes _ _ (was (test (c .before .before .before .before .before)) (c .before .before .before .before .if1 .taken)) (c .before .before .keep .ensures)
+unfolding lay pick
+returns c =
+    let within = c .before .before .before .before in
+    rw (was (test (within .before)) (within .if1 .taken)) (c .before .before .keep .ensures)
 
 refuse-requires : tie.Need-refuse-requires
 refuse-requires c κs = search needs
 
 returns-2 : tie.Need-returns-2
-unfolding lay
-returns-2 c = does-not _ _ (was (test (c .before .before)) (c .before .if1 .left)) (c .refuse .ensures _)
+unfolding lay pick
+returns-2 c = rw (was (test (c .before .before)) (c .before .if1 .left)) (c .refuse .ensures _)
 
 pub lay-spec : {M : Type 1} → statement M
 lay-spec =

@@ -9,7 +9,7 @@ both-requires c κs = search needs
 
 returns : tie.Need-returns
 unfolding sameKey
-returns c = cc
+returns c = c .both .ensures
 
 pub same-key-spec : {M : Type 1} → statement M
 same-key-spec = tie.close (tie.spec both-requires returns)

@@ -28,8 +28,10 @@ same-length c = search needs
 returns : tie.Need-returns
 unfolding laid
 returns c =
-    let a = c .before .before .before .before .before .before .before in
-    store-is (a .args .f) (payload (now (a .args .s))) (now (a .args .buffer)) _ (a .pre) (rw (c .before .before .before .before .payload .ensures) at (c .before .before .copy .ensures))
+    let start = c .before .before .before .before .before .before .before in
+    let lent = c .before .before .before .before in
+    store-is (start .args .f) (payload (now (start .args .s))) (now (start .args .buffer)) _ (start .pre)
+    (rw (lent .payload .ensures) at (c .before .before .copy .ensures))
 
 pub store-spec : {M : Type 1} → statement M
 store-spec =

@@ -17,7 +17,9 @@ first-requires-2 : tie.Need-first-requires-2
 first-requires-2 c κs = search needs
 
 returns : tie.Need-returns
-returns c = c .first2 .ensures ∙ rw (c .before .first .ensures, c .before .before .good-state .ensures, c .before .before .before .good-settings .ensures)
+returns c =
+    let states = c .before .before in
+    c .first2 .ensures ∙ rw (c .before .first .ensures, states .good-state .ensures, states .before .good-settings .ensures)
 
 pub unfit-spec : {M : Type 1} → statement M
 unfit-spec =

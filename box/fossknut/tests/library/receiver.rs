@@ -1,0 +1,355 @@
+//! The receiver, and the rows of demand 3.
+
+use crate::guarded::Guarded;
+use crate::{ffi, settings};
+use fossknut::Answer;
+use second::generator::rows::{any_row, any_state, bad_settings, good_settings};
+use second::generator::{faulty, seal, sound, CHECKS};
+use second::random::Random;
+use second::receiver::{Receiver, Run, Settings};
+use second::row::{whole_runs, Event};
+use second::telling;
+
+/// The second program's state in the library's numbers.
+fn numbers(state: Option<Run>) -> ffi::State {
+    state.map_or_else(ffi::State::default, |run| ffi::State {
+        open: 1,
+        next: run.next,
+        last: run.last,
+        filled: run.filled,
+        flag: run.flag.into(),
+    })
+}
+
+/// How often each answer was given.
+struct Tally([usize; 256]);
+
+impl Tally {
+    fn new() -> Self {
+        Self([0; 256])
+    }
+
+    fn count(&mut self, number: u8) {
+        self.0[usize::from(number)] += 1;
+    }
+
+    fn assert_all(&self, numbers: impl IntoIterator<Item = u8>, times: usize) {
+        for number in numbers {
+            let given = self.0[usize::from(number)];
+            assert!(given >= times, "{number} was answered {given} times");
+        }
+    }
+}
+
+/// Guarded memory for a receiver: one for its buffer, one for the sections.
+struct Memory {
+    buffer: Guarded,
+    section: Guarded,
+}
+
+impl Memory {
+    fn new() -> Self {
+        Self {
+            buffer: Guarded::new(),
+            section: Guarded::new(),
+        }
+    }
+
+    /// The library's receiver and the second program's, with equal buffers.
+    fn pair(&mut self, second: Receiver) -> Pair<'_> {
+        Pair {
+            settings: settings(&second.settings),
+            state: numbers(second.state),
+            buffer: self.buffer.at_end(&second.buffer),
+            section: &mut self.section,
+            second,
+        }
+    }
+}
+
+/// Two receivers that are given the same, and have to do the same.
+struct Pair<'a> {
+    settings: fossknut::Settings,
+    state: ffi::State,
+    buffer: &'a mut [u8],
+    section: &'a mut Guarded,
+    second: Receiver,
+}
+
+impl Pair<'_> {
+    /// Number and length, on which both agree, as they do on state and buffer.
+    fn receive(&mut self, bytes: &[u8]) -> (u8, usize) {
+        let section = if bytes.len() % 2 == 0 {
+            self.section.at_end(bytes)
+        } else {
+            self.section.at_start(bytes)
+        };
+        let answer = ffi::receive(&self.settings, &mut self.state, section, self.buffer);
+        assert!(section == bytes, "the call changed its input");
+        let expected = self.second.receive(bytes);
+        assert_eq!(answer, (expected.number, expected.length), "{bytes:02X?}");
+        self.assert_equal();
+        answer
+    }
+
+    fn gap(&mut self) {
+        ffi::gap(&mut self.state);
+        self.second.gap();
+        self.assert_equal();
+    }
+
+    fn assert_equal(&self) {
+        assert_eq!(self.state, numbers(self.second.state));
+        assert!(self.buffer == self.second.buffer, "the buffers differ");
+    }
+
+    /// The answers to all sections of a row; a gap notice gets none.
+    fn row(&mut self, events: &[Event]) -> Vec<(u8, usize)> {
+        let mut answers = Vec::new();
+        for event in events {
+            match event {
+                Event::Section(bytes) => answers.push(self.receive(bytes)),
+                Event::Gap => self.gap(),
+            }
+        }
+        answers
+    }
+}
+
+#[test]
+fn telling_inputs() {
+    let mut memory = Memory::new();
+    for row in telling::rows() {
+        let mut pair = memory.pair(Receiver {
+            settings: row.settings,
+            state: row.state,
+            buffer: vec![0xA5; row.buffer_length],
+        });
+        assert_eq!(pair.row(&row.events), row.answers, "{}", row.source);
+    }
+}
+
+#[test]
+fn random_rows() {
+    let mut memory = Memory::new();
+    let mut random = Random::new(1);
+    let mut tally = Tally::new();
+    for _ in 0..20_000 {
+        let row = any_row(&mut random);
+        let buffer = random.bytes(row.buffer_length.min(300));
+        let buffer = buffer.into_iter().cycle().take(row.buffer_length);
+        let mut pair = memory.pair(Receiver::new(row.settings, buffer.collect()));
+        for (number, _) in pair.row(&row.events) {
+            tally.count(number);
+        }
+    }
+    tally.assert_all((0..=2).chain(12..=23), 200);
+}
+
+/// The wrapper beside demand 3 told over the whole row.
+#[test]
+fn random_rows_by_the_wrapper() {
+    let mut random = Random::new(2);
+    let mut delivered = 0;
+    for _ in 0..20_000 {
+        let row = any_row(&mut random);
+        let whole = whole_runs(&row.settings, row.buffer_length, &row.events);
+        let buffer = vec![0; row.buffer_length];
+        let mut receiver = fossknut::Receiver::new(settings(&row.settings), buffer);
+        for (event, whole) in row.events.iter().zip(whole) {
+            let unit = match event {
+                Event::Section(bytes) => match receiver.receive(bytes) {
+                    Answer::Delivered(unit) => Some(unit.to_vec()),
+                    _ => None,
+                },
+                Event::Gap => {
+                    receiver.gap();
+                    None
+                }
+            };
+            delivered += usize::from(unit.is_some());
+            assert_eq!(unit, whole.map(|whole| whole.unit), "{row:?}");
+        }
+    }
+    assert!(delivered > 20_000, "{delivered}");
+}
+
+/// A section that goes on with the run, or nearly.
+fn nearly_continuing(random: &mut Random, settings: &Settings, run: &Run) -> Vec<u8> {
+    let mut address = settings.address;
+    if random.one_in(8) {
+        address[random.below(6)] ^= 1;
+    }
+    let length = random.pick(&[0, 1, 1, 2, 3, 50]);
+    let mut section = sound(
+        address,
+        run.next as u8,
+        run.last as u8,
+        &random.bytes(length),
+    );
+    section[5] |= u8::from(run.flag) << 1;
+    match random.below(16) {
+        0 => section[5] ^= 2,
+        1 => section[5] ^= 0x10,
+        2 => section[6] = 0,
+        3 => section[7] = section[6],
+        4 => section[6] = section[6].wrapping_add(1),
+        5 => {
+            let fault = random.pick(&CHECKS);
+            return faulty(random, &[fault]);
+        }
+        _ => {}
+    }
+    seal(&mut section);
+    section
+}
+
+#[test]
+fn settings_and_states_of_any_value() {
+    let mut memory = Memory::new();
+    let mut random = Random::new(3);
+    let mut tally = Tally::new();
+    for _ in 0..40_000 {
+        let settings = if random.one_in(6) {
+            bad_settings(&mut random)
+        } else {
+            good_settings(&mut random)
+        };
+        let run = any_state(&mut random);
+        let section = nearly_continuing(&mut random, &settings, &run);
+        let near = run.filled.min(66_000) + section.len().saturating_sub(16);
+        let length = match random.below(32) {
+            0 => near + random.below(3),
+            _ if near < 300 => (near + random.below(3)).saturating_sub(1),
+            _ => random.below(60),
+        };
+        let mut pair = memory.pair(Receiver {
+            settings,
+            state: (!random.one_in(8)).then(|| run),
+            buffer: vec![random.byte(); length],
+        });
+        // READINGS A12: any number but 0 is a 1.
+        let any_1 = random.pick(&[1, 2, 128, 255]);
+        pair.state.flag *= any_1;
+        pair.state.open *= any_1;
+        tally.count(pair.receive(&section).0);
+    }
+    tally.assert_all((0..=2).chain(10..=23), 20);
+}
+
+#[test]
+fn idle_with_any_numbers() {
+    let mut memory = Memory::new();
+    let mut random = Random::new(4);
+    for _ in 0..2_000 {
+        let settings = good_settings(&mut random);
+        let run = any_state(&mut random);
+        let section = nearly_continuing(&mut random, &settings, &run);
+        let mut pair = memory.pair(Receiver::new(settings, vec![0; 100]));
+        pair.state = ffi::State {
+            open: 0,
+            ..numbers(Some(run))
+        };
+        pair.receive(&section);
+    }
+}
+
+#[test]
+fn gap_notices_in_any_state() {
+    let mut random = Random::new(5);
+    for _ in 0..10_000 {
+        let mut state = ffi::State {
+            open: random.byte(),
+            flag: random.byte(),
+            ..numbers(Some(any_state(&mut random)))
+        };
+        ffi::gap(&mut state);
+        assert_eq!(state, ffi::State::default());
+    }
+}
+
+#[test]
+fn every_bit_of_the_address_at_every_range() {
+    let mut memory = Memory::new();
+    let mut random = Random::new(6);
+    for range in 1..=6 {
+        let settings = Settings {
+            range,
+            ..good_settings(&mut random)
+        };
+        for bit in 0..48 {
+            let mut address = settings.address;
+            address[bit / 8] ^= 1 << (bit % 8);
+            let mut pair = memory.pair(Receiver::new(settings, vec![0; 4]));
+            let (number, _) = pair.receive(&sound(address, 0, 0, b"knut"));
+            let compared = bit / 8 >= 6 - range;
+            assert_eq!(number, if compared { 2 } else { 0 }, "{bit} of {range}");
+        }
+    }
+}
+
+/// Units at the edge of 65,535 bytes, in buffers at that edge, by few long sections and many short.
+#[test]
+fn the_longest_units() {
+    let mut memory = Memory::new();
+    let mut random = Random::new(7);
+    let settings = Settings {
+        limit: 255,
+        ..good_settings(&mut random)
+    };
+    for (piece_size, unit_length, buffer_length, last) in [
+        (4_080, 65_535, 65_535, (0, 65_535)),
+        (4_080, 65_535, 65_534, (23, 0)),
+        (4_080, 65_535, 70_000, (0, 65_535)),
+        (4_080, 65_536, 70_000, (23, 0)),
+        (257, 65_535, 65_535, (0, 65_535)),
+        (258, 65_536, 65_536, (23, 0)),
+    ] {
+        let unit = random.bytes(unit_length);
+        let last_section_number = (unit_length - 1) / piece_size;
+        let mut pair = memory.pair(Receiver::new(settings, vec![0x5A; buffer_length]));
+        for (number, piece) in unit.chunks(piece_size).enumerate() {
+            let address = settings.address;
+            let section = sound(address, number as u8, last_section_number as u8, piece);
+            let expected = if number == last_section_number {
+                last
+            } else {
+                (1, 0)
+            };
+            assert_eq!(
+                pair.receive(&section),
+                expected,
+                "{number} of {unit_length} bytes"
+            );
+        }
+        let taken = last.1;
+        assert!(pair.buffer[..taken] == unit[..taken]);
+    }
+}
+
+#[test]
+fn the_wrapper_by_any_memory() {
+    let ours = fossknut::Settings {
+        address: second::generator::OURS,
+        range: 6,
+        limit: 1,
+    };
+    let section = sound(ours.address, 0, 0, b"knut");
+    let mut lent = [0; 5];
+    let mut receiver = fossknut::Receiver::new(ours, &mut lent[..]);
+    assert_eq!(receiver.receive(&section), Answer::Delivered(b"knut"));
+    assert_eq!(receiver.receive(&section).number(), 0);
+    assert_eq!(receiver.settings(), &ours);
+    assert_eq!(lent, *b"knut\0");
+    let mut receiver = fossknut::Receiver::new(ours, vec![0; 3]);
+    assert_eq!(receiver.receive(&section).number(), 23);
+    assert_eq!(receiver.receive(&[]).number(), 12);
+    assert_eq!(receiver.into_buffer(), [0; 3]);
+    let mut receiver = fossknut::Receiver::new(ours, []);
+    assert_eq!(
+        receiver.receive(&sound(ours.address, 0, 0, &[])),
+        Answer::Delivered(&[])
+    );
+    let others = receiver.receive(&sound([0; 6], 0, 1, &[]));
+    assert_eq!((others, others.number()), (Answer::PassedBy, 2));
+}

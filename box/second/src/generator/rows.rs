@@ -1,0 +1,184 @@
+//! Rows of events as a bad night makes them: sections lost, doubled, swapped, damaged, and others'
+//! between ours.
+
+use super::{faulty, seal, sound, CHECKS};
+use crate::random::Random;
+use crate::receiver::{Run, Settings};
+use crate::row::Event;
+
+/// A receiver that starts idle, and what it is given.
+#[derive(Clone, Debug)]
+pub struct Row {
+    /// The receiver's settings: good ones.
+    pub settings: Settings,
+    /// Its buffer's length.
+    pub buffer_length: usize,
+    /// What it is given.
+    pub events: Vec<Event>,
+}
+
+/// A row of some runs, by settings under which most of them can be received.
+pub fn any_row(random: &mut Random) -> Row {
+    let settings = good_settings(random);
+    let mut sections = Vec::new();
+    for _ in 0..random.between(1, 5) {
+        sections.extend(any_run(random, &settings));
+    }
+    disturb(random, &mut sections);
+    Row {
+        settings,
+        buffer_length: any_buffer_length(random),
+        events: events(random, sections),
+    }
+}
+
+/// Any address; all ranges; small limits more often.
+pub fn good_settings(random: &mut Random) -> Settings {
+    let limit = match random.below(8) {
+        0 => 255,
+        1 => random.between(1, 255),
+        _ => random.between(2, 8),
+    };
+    let mut address = [0; 6];
+    address.copy_from_slice(&random.bytes(6));
+    Settings {
+        address,
+        range: random.between(1, 6),
+        limit,
+    }
+}
+
+fn any_buffer_length(random: &mut Random) -> usize {
+    match random.below(64) {
+        0 => random.between(65_530, 65_540),
+        1..=16 => random.between(0, 40),
+        _ => random.between(40, 200),
+    }
+}
+
+/// The sections of one unit, in order: a few more often than many, and seldom one too many.
+fn any_run(random: &mut Random, settings: &Settings) -> Vec<Vec<u8>> {
+    let most = settings.limit.min(6) - 1;
+    let last = match random.below(64) {
+        0 => random.below(256),
+        1 => settings.limit.min(255),
+        _ => random.between(0, most),
+    };
+    let address = any_address(random, settings);
+    let flag = u8::from(random.one_in(2)) << 1;
+    let longest = if random.one_in(500) { 4_080 } else { 20 };
+    let numbers = 0..=last.min(40) as u8;
+    numbers
+        .map(|number| {
+            let payload_length = random.between(0, longest);
+            let payload = random.bytes(payload_length);
+            let mut section = sound(address, number, last as u8, &payload);
+            section[5] |= flag;
+            if random.one_in(60) {
+                section[5] |= (random.between(1, 3) as u8) << 4; // payload scrambling
+            }
+            seal(&mut section);
+            section
+        })
+        .collect()
+}
+
+/// Mostly ours; else other in one byte, which may be one that is not compared.
+fn any_address(random: &mut Random, settings: &Settings) -> [u8; 6] {
+    let mut address = settings.address;
+    if random.one_in(4) {
+        address[random.below(6)] ^= 1 << random.below(8);
+    }
+    address
+}
+
+/// Some sections lost, doubled or swapped, some of another run, some with another number or flag.
+fn disturb(random: &mut Random, sections: &mut Vec<Vec<u8>>) {
+    for _ in 0..random.below(4) {
+        let count = sections.len();
+        if count == 0 {
+            return;
+        }
+        let (one, other) = (random.below(count), random.below(count));
+        match random.below(8) {
+            0 => drop(sections.remove(one)),
+            1 => sections.insert(one, sections[one].clone()),
+            2 => sections.swap(one, other),
+            3 => sections.insert(one, sections[other].clone()),
+            4 => damage(random, &mut sections[one]),
+            5 => set_and_seal(&mut sections[one], 5, |byte| byte ^ 2),
+            6 => {
+                let last = random.byte();
+                set_and_seal(&mut sections[one], 7, |_| last);
+            }
+            _ => {
+                let faults = [CHECKS[random.below(CHECKS.len())]];
+                sections.insert(one, faulty(random, &faults));
+            }
+        }
+    }
+}
+
+fn damage(random: &mut Random, section: &mut [u8]) {
+    if !section.is_empty() {
+        section[random.below(section.len())] ^= 1 << random.below(8);
+    }
+}
+
+fn set_and_seal(section: &mut [u8], place: usize, to: impl Fn(u8) -> u8) {
+    if section.len() >= 16 {
+        section[place] = to(section[place]);
+        seal(section);
+    }
+}
+
+/// The sections with gap notices and sound sections for anyone between them.
+fn events(random: &mut Random, sections: Vec<Vec<u8>>) -> Vec<Event> {
+    let mut events = Vec::new();
+    for section in sections {
+        if random.one_in(20) {
+            events.push(Event::Gap);
+        }
+        if random.one_in(8) {
+            events.push(Event::Section(faulty(random, &[])));
+        }
+        events.push(Event::Section(section));
+    }
+    events
+}
+
+/// Settings that 10 refuses: out of range, and such that only their low bits are good.
+pub fn bad_settings(random: &mut Random) -> Settings {
+    let good = good_settings(random);
+    let range = random.pick(&[0, 7, 255, 256, 257, 262, 1 << 32 | 6, usize::MAX]);
+    let limit = random.pick(&[0, 256, 257, 272, 65_552, 1 << 32 | 16, usize::MAX]);
+    match random.below(3) {
+        0 => Settings { range, ..good },
+        1 => Settings { limit, ..good },
+        _ => Settings {
+            range,
+            limit,
+            ..good
+        },
+    }
+}
+
+/// An open state of any value: at the edges of a good one, beyond them, or good in its low bits.
+pub fn any_state(random: &mut Random) -> Run {
+    let wide = [256, 1 << 16, 1 << 32, usize::MAX - 255];
+    let mut number = |edges: &[usize]| match random.below(8) {
+        0 => random.pick(&wide) | random.pick(edges),
+        1 | 2 => random.below(260),
+        _ => random.pick(edges),
+    };
+    let next = number(&[0, 1, 2, 3, 16, 17, 254, 255]);
+    let last = number(&[0, 1, 2, 3, 16, 17, 200, 254, 255]);
+    let edge = next.wrapping_mul(4_080);
+    let filled = number(&[0, 1, 50, edge, edge.wrapping_add(1), 65_535, 65_536]);
+    Run {
+        next,
+        last,
+        filled,
+        flag: random.one_in(2),
+    }
+}

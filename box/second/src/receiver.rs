@@ -1,0 +1,244 @@
+//! The receiver (01, "The receiver"): settings, the run's state, and one step for each section.
+
+use crate::check;
+use crate::section::Section;
+
+/// What a receiver is set to.
+#[derive(Clone, Copy, Debug, PartialEq, Eq)]
+pub struct Settings {
+    /// The own address as printed, MAC_address_1 first.
+    pub address: [u8; 6],
+    /// MAC_address_range: how many bytes are compared, from MAC_address_6 upward.
+    pub range: usize,
+    /// max_sections_per_datagram.
+    pub limit: usize,
+}
+
+impl Settings {
+    /// Whether 10 does not apply.
+    pub fn are_good(&self) -> bool {
+        (1..=6).contains(&self.range) && (1..=255).contains(&self.limit)
+    }
+
+    /// Whether the compared bytes of `section`'s address are the own ones; of good settings only.
+    pub fn are_addressed_by(&self, section: &Section) -> bool {
+        let from = 6 - self.range;
+        section.mac_address()[from..] == self.address[from..]
+    }
+
+    /// The first of 20 and 21 that applies to `section`, which is sound and addressed to us.
+    pub fn bar(&self, section: &Section) -> Option<u8> {
+        if section.payload_scrambling_control() != 0 {
+            Some(20)
+        } else if usize::from(section.last_section_number()) + 1 > self.limit {
+            Some(21)
+        } else {
+            None
+        }
+    }
+}
+
+/// An open run, in numbers of any value.
+#[derive(Clone, Copy, Debug, PartialEq, Eq)]
+pub struct Run {
+    /// The number that goes on with the run, e.
+    pub next: usize,
+    /// Its last number, L.
+    pub last: usize,
+    /// How many bytes of the unit are stored, f.
+    pub filled: usize,
+    /// LLC_SNAP_flag.
+    pub flag: bool,
+}
+
+impl Run {
+    /// Whether an open state is good.
+    pub fn is_good(&self) -> bool {
+        (1..=self.last).contains(&self.next)
+            && self.last <= 254
+            && self.filled <= 65_535
+            && self.filled <= 4_080 * self.next
+    }
+}
+
+/// What a section is answered.
+#[derive(Clone, Copy, Debug, PartialEq, Eq)]
+pub struct Answer {
+    /// The paper's number.
+    pub number: u8,
+    /// The unit's length, 0 unless it is delivered.
+    pub length: usize,
+}
+
+/// The unit's room in a buffer of that length.
+pub fn room(buffer_length: usize) -> usize {
+    buffer_length.min(65_535)
+}
+
+/// A receiver and its buffer.
+#[derive(Clone, Debug)]
+pub struct Receiver {
+    /// What it is set to.
+    pub settings: Settings,
+    /// The open run, or idle.
+    pub state: Option<Run>,
+    /// Where the unit is joined.
+    pub buffer: Vec<u8>,
+}
+
+impl Receiver {
+    /// A fresh one.
+    pub fn new(settings: Settings, buffer: Vec<u8>) -> Self {
+        Self {
+            settings,
+            state: None,
+            buffer,
+        }
+    }
+
+    /// A gap notice: any state becomes idle.
+    pub fn gap(&mut self) {
+        self.state = None;
+    }
+
+    /// One section, of any length.
+    pub fn receive(&mut self, bytes: &[u8]) -> Answer {
+        let number = self.number(bytes);
+        let mut length = 0;
+        if number <= 1 {
+            length = self.store(&Section(bytes));
+        } else if number != 2 {
+            self.state = None;
+        }
+        Answer { number, length }
+    }
+
+    /// The first of the table's lines that applies.
+    fn number(&self, bytes: &[u8]) -> u8 {
+        if !self.settings.are_good() {
+            return 10;
+        }
+        if self.state.map_or(false, |run| !run.is_good()) {
+            return 11;
+        }
+        let fault = check(bytes);
+        if fault != 0 {
+            return fault;
+        }
+        let section = Section(bytes);
+        if !self.settings.are_addressed_by(&section) {
+            return 2;
+        }
+        if let Some(bar) = self.settings.bar(&section) {
+            return bar;
+        }
+        match self.filled_before(&section) {
+            None => 22,
+            Some(filled) if filled + section.payload().len() > room(self.buffer.len()) => 23,
+            _ if section.section_number() < section.last_section_number() => 1,
+            _ => 0,
+        }
+    }
+
+    /// Where the payload belongs: at 0 for number 0, behind what is stored for the right
+    /// continuation.
+    fn filled_before(&self, section: &Section) -> Option<usize> {
+        if section.section_number() == 0 {
+            return Some(0);
+        }
+        let run = self.state?;
+        let goes_on = usize::from(section.section_number()) == run.next
+            && usize::from(section.last_section_number()) == run.last
+            && (section.llc_snap_flag() == 1) == run.flag;
+        goes_on.then(|| run.filled)
+    }
+
+    /// Stores the payload of a section that is answered 0 or 1, and gives the unit's length.
+    fn store(&mut self, section: &Section) -> usize {
+        let filled = self.filled_before(section).unwrap_or(0);
+        let end = filled + section.payload().len();
+        self.buffer[filled..end].copy_from_slice(section.payload());
+        let number = usize::from(section.section_number());
+        let last = usize::from(section.last_section_number());
+        if number == last {
+            self.state = None;
+            return end;
+        }
+        self.state = Some(Run {
+            next: number + 1,
+            last,
+            filled: end,
+            flag: section.llc_snap_flag() == 1,
+        });
+        0
+    }
+}
+
+#[cfg(test)]
+mod tests {
+    use super::*;
+    use crate::row::Event;
+    use crate::telling::rows;
+
+    #[test]
+    fn each_telling_row_gets_its_answers() {
+        for row in rows() {
+            let mut receiver = Receiver {
+                settings: row.settings,
+                state: row.state,
+                buffer: vec![0; row.buffer_length],
+            };
+            let answers = row.events.iter().filter_map(|event| match event {
+                Event::Section(bytes) => Some(receiver.receive(bytes)),
+                Event::Gap => {
+                    receiver.gap();
+                    None
+                }
+            });
+            let answers: Vec<_> = answers
+                .map(|answer| (answer.number, answer.length))
+                .collect();
+            assert_eq!(answers, row.answers, "{}", row.source);
+        }
+    }
+
+    #[test]
+    fn good_states() {
+        let good = Run {
+            next: 1,
+            last: 1,
+            filled: 4_080,
+            flag: false,
+        };
+        assert!(good.is_good());
+        assert!(Run {
+            next: 254,
+            last: 254,
+            filled: 65_535,
+            ..good
+        }
+        .is_good());
+        for bad in [
+            Run { next: 0, ..good },
+            Run { next: 2, ..good },
+            Run { last: 255, ..good },
+            Run {
+                filled: 4_081,
+                ..good
+            },
+            Run {
+                next: 17,
+                last: 17,
+                filled: 65_536,
+                ..good
+            },
+            Run {
+                next: usize::MAX,
+                last: usize::MAX,
+                ..good
+            },
+        ] {
+            assert!(!bad.is_good(), "{bad:?}");
+        }
+    }
+}

@@ -1,0 +1,126 @@
+//! Rows for the receiver.
+
+use crate::generator::{sound, with_byte, OURS};
+use crate::receiver::{Run, Settings};
+use crate::row::Event::{self, Gap, Section};
+
+/// A receiver, what it is given, and what it has to answer.
+pub struct Row {
+    /// Where in the papers it comes from.
+    pub source: &'static str,
+    /// Its settings.
+    pub settings: Settings,
+    /// Its state at the start.
+    pub state: Option<Run>,
+    /// Its buffer's length.
+    pub buffer_length: usize,
+    /// What it is given.
+    pub events: Vec<Event>,
+    /// Number and length for each section; a gap notice gets no answer.
+    pub answers: Vec<(u8, usize)>,
+}
+
+/// All of them.
+pub fn rows() -> Vec<Row> {
+    let mut rows = samples_of_01();
+    rows.extend(passing_by());
+    rows.extend(states());
+    rows.extend(first_sections());
+    rows
+}
+
+/// The listing's settings, idle, and a buffer of 65,535.
+fn row(source: &'static str, events: Vec<Event>, answers: &[(u8, usize)]) -> Row {
+    Row {
+        source,
+        settings: Settings {
+            address: OURS,
+            range: 6,
+            limit: 16,
+        },
+        state: None,
+        buffer_length: 65_535,
+        events,
+        answers: answers.to_vec(),
+    }
+}
+
+/// A sound section for us with a payload of that length.
+fn ours(section_number: u8, last_section_number: u8, payload_length: usize) -> Event {
+    let payload = vec![0x55; payload_length];
+    Section(sound(OURS, section_number, last_section_number, &payload))
+}
+
+fn others(last_section_number: u8, byte_5: u8) -> Event {
+    let section = sound([2, 0, 0, 0, 0, 1], 0, last_section_number, b"others");
+    Section(with_byte(&section, 5, byte_5))
+}
+
+fn damaged(event: Event) -> Event {
+    match event {
+        Section(mut bytes) => {
+            bytes[12] ^= 1;
+            Section(bytes)
+        }
+        Gap => Gap,
+    }
+}
+
+/// Payload lengths 4, 0, 3 in one run.
+fn unit_of_7() -> Vec<Event> {
+    vec![ours(0, 2, 4), ours(1, 2, 0), ours(2, 2, 3)]
+}
+
+#[rustfmt::skip] // a row a line
+fn samples_of_01() -> Vec<Row> {
+    let repeated = vec![ours(0, 2, 1), ours(1, 2, 1), ours(1, 2, 1)];
+    let halves = vec![ours(0, 1, 3), damaged(ours(1, 1, 3)), damaged(ours(0, 1, 4)), ours(1, 1, 4)];
+    let delivered = [(1, 0), (1, 0), (0, 7)];
+    vec![
+        row("01: payload lengths 4, 0, 3", unit_of_7(), &delivered),
+        row("01: numbers 0, 1, 1 with L = 2", repeated, &[(1, 0), (1, 0), (22, 0)]),
+        row("01: numbers 0, gap notice, 1", vec![ours(0, 1, 1), Gap, ours(1, 1, 1)], &[(1, 0), (22, 0)]),
+        row("01: L = 16 with limit 16", vec![ours(0, 16, 1)], &[(21, 0)]),
+        row("01: L = 15 with limit 16", vec![ours(0, 15, 1)], &[(1, 0)]),
+        Row { buffer_length: 7, ..row("01: buffer 7 takes that unit", unit_of_7(), &delivered) },
+        Row { buffer_length: 6, ..row("01: buffer 6 gives 23", unit_of_7(), &[(1, 0), (1, 0), (23, 0)]) },
+        row("01: a damaged section does not join halves of two runs", halves, &[(1, 0), (16, 0), (16, 0), (22, 0)]),
+    ]
+}
+
+#[rustfmt::skip] // a row a line
+fn passing_by() -> Vec<Row> {
+    let between = |event| vec![ours(0, 1, 2), event, ours(1, 1, 3)];
+    vec![
+        row("A2: a sound section for another address between", between(others(0, 0xC1)), &[(1, 0), (2, 0), (0, 5)]),
+        row("A5: address scrambling 01, another's address", between(others(0, 0xC5)), &[(1, 0), (19, 0), (22, 0)]),
+        row("A5: another's section, damaged", between(damaged(others(0, 0xC1))), &[(1, 0), (16, 0), (22, 0)]),
+        row("A6: another's payload scrambling 11, last 255", between(others(255, 0xF1)), &[(1, 0), (2, 0), (0, 5)]),
+    ]
+}
+
+#[rustfmt::skip] // a row a line
+fn states() -> Vec<Row> {
+    let run = |next, last, filled| Some(Run { next, last, filled, flag: false });
+    vec![
+        Row { state: run(1, 200, 0), ..row("A7: a state above the limit", vec![ours(1, 200, 1)], &[(21, 0)]) },
+        Row { state: run(1, 1, 50), buffer_length: 49, ..row("A7: a state above the buffer", vec![ours(1, 1, 0)], &[(23, 0)]) },
+        Row { state: run(1, 1, 50), buffer_length: 50, ..row("A7: a state that fills the buffer", vec![ours(1, 1, 0)], &[(0, 50)]) },
+        Row { state: run(1, 1, 4), buffer_length: 5, ..row("A8: number 0 above the room", vec![ours(0, 1, 6), ours(1, 1, 1)], &[(23, 0), (22, 0)]) },
+        Row { state: run(0, 300, 7), ..row("A10: a gap notice in a bad state", vec![Gap, ours(0, 0, 1)], &[(0, 1)]) },
+        Row { state: run(0, 300, 7), ..row("11 before 12", vec![Section(vec![])], &[(11, 0)]) },
+    ]
+}
+
+#[rustfmt::skip] // a row a line
+fn first_sections() -> Vec<Row> {
+    let limit = |limit| Settings { address: OURS, range: 6, limit };
+    let run = Some(Run { next: 1, last: 2, filled: 9, flag: false });
+    vec![
+        Row { settings: limit(255), ..row("A9: L = 255 with limit 255", vec![ours(0, 255, 0)], &[(21, 0)]) },
+        Row { settings: limit(255), ..row("A9: L = 254 with limit 255", vec![ours(0, 254, 0)], &[(1, 0)]) },
+        Row { settings: limit(256), ..row("A16: limit 256", vec![ours(0, 0, 0)], &[(10, 0)]) },
+        Row { settings: limit(0), state: run, ..row("10 before 11 and 12, and idle", vec![Section(vec![])], &[(10, 0)]) },
+        Row { state: run, ..row("number 0 forgets an open run", vec![ours(0, 1, 3), ours(1, 1, 4)], &[(1, 0), (0, 7)]) },
+    ]
+}

@@ -1,0 +1,92 @@
+//! Sections for the check.
+
+use crate::generator::{seal, set_section_length, sound, with_byte, OURS};
+use crate::recording::LISTING_OF_01;
+
+/// A section to check.
+pub struct Section {
+    /// Where in the papers it comes from.
+    pub source: &'static str,
+    /// The section.
+    pub bytes: Vec<u8>,
+    /// What the check answers: 12 to 19, or 0.
+    pub number: u8,
+}
+
+/// All of them.
+pub fn sections() -> Vec<Section> {
+    let samples = samples_of_01().into_iter();
+    let rows = samples.chain(lengths()).chain(ignored_bits());
+    rows.map(|(source, bytes, number)| Section {
+        source,
+        bytes,
+        number,
+    })
+    .collect()
+}
+
+type Row = (&'static str, Vec<u8>, u8);
+
+fn with_payload(length: usize) -> Vec<u8> {
+    sound(OURS, 0, 0, &vec![0x55; length])
+}
+
+#[rustfmt::skip] // a row a line
+fn samples_of_01() -> Vec<Row> {
+    vec![
+        ("01: payload of 4 bytes", with_payload(4), 0),
+        ("01: payload 4,080", with_payload(4_080), 0),
+        ("01: 15 bytes", with_payload(0)[..15].to_vec(), 12),
+        ("01: section_length 4,094 in 4,097 bytes", with_payload(4_081), 14),
+        ("01: the listing's first line", LISTING_OF_01[..16].to_vec(), 13),
+        ("01: the listing's second line", LISTING_OF_01[16..19].to_vec(), 12),
+        ("01: the listing's third line", LISTING_OF_01[19..].to_vec(), 12),
+    ]
+}
+
+#[rustfmt::skip] // a row a line
+fn lengths() -> Vec<Row> {
+    let int = |length: usize| with_byte(&with_payload(length - 16), 0, 0x4C);
+    let mut section_length_5 = with_payload(0);
+    set_section_length(&mut section_length_5, 5);
+    seal(&mut section_length_5);
+    let longest_offer = [&[0x3E, 0xBF, 0xFF][..], &[0; 4_095]].concat();
+    vec![
+        ("A3: 15 bytes of another table", int(16)[..15].to_vec(), 12),
+        ("A3: 17 bytes, too few for an INT only", int(17), 13),
+        ("A4: 16 bytes, section_length 5", section_length_5.clone(), 14),
+        ("A4: 8 bytes, section_length 5", section_length_5[..8].to_vec(), 12),
+        ("A18: 3E BF FF and 4,095 bytes", longest_offer.clone(), 14),
+        ("A18: the same, CRC_32 right", with_byte(&longest_offer, 0, 0x3E), 14),
+        ("A18: an end of 16 bytes", with_payload(4)[..16].to_vec(), 14),
+    ]
+}
+
+#[rustfmt::skip] // a row a line
+fn ignored_bits() -> Vec<Row> {
+    let shortest = with_payload(0);
+    let another = |byte_5| with_byte(&sound([2, 0, 0, 0, 0, 1], 0, 255, &[]), 5, byte_5);
+    vec![
+        ("A5: address scrambling 01, another's address", another(0xC5), 19),
+        ("A6: payload scrambling 11, another's address, last 255", another(0xF1), 0),
+        ("A19: byte 1 without reserved bits", with_byte(&shortest, 1, 0x80), 0),
+        ("A19: byte 1 with one of them", with_byte(&shortest, 1, 0x90), 0),
+        ("A19: byte 1 with the other", with_byte(&shortest, 1, 0xA0), 0),
+        ("A19: byte 5 without reserved bits", with_byte(&shortest, 5, 0x01), 0),
+        ("A19: byte 5 with one of them", with_byte(&shortest, 5, 0x41), 0),
+        ("A19: byte 5 with the other", with_byte(&shortest, 5, 0x81), 0),
+    ]
+}
+
+#[cfg(test)]
+mod tests {
+    use super::sections;
+    use crate::check;
+
+    #[test]
+    fn each_gets_its_number() {
+        for section in sections() {
+            assert_eq!(check(&section.bytes), section.number, "{}", section.source);
+        }
+    }
+}

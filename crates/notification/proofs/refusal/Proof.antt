@@ -1,0 +1,78 @@
+-- The table is decided in parts: 12 to 18, then 30 and 31, then 32 and 33, which the readers of the loops give.
+use Rattle.notification.proofs.Refusals.{platform-numbered, loops-told}
+use Rattle.notification.specs.Readers.{loopFault}
+use Rattle.notification_rules.specs.Notice.{notificationForm, platformLines, refusal}
+use Rattle.rules.proofs.Check.{fault-numbered}
+use Rattle.rules.specs.Check.{faultLines, fault}
+use Rattle.rules.specs.declared.Form.{Form}
+use Rattle.wire.proofs.Choice.{firstOf-here, firstOf-past, was}
+use Rattle.wire.specs.Choice.{firstOf}
+use denote.Ref.{now}
+use lib.ListN.{drop}
+use mathlib.Core.List.{List}
+use mathlib.Core.Bool.{Bool, true, false}
+use mathlib.Core.Path.{sym, ap, _∙_}
+use Prim.Native.Nat.{ℕ}
+use borrow.Author.Needs.{needs}
+use Rattle.notification.proofs.refusal.Statement.{statement}
+use Rattle.notification.proofs.refusal.Tie as tie
+
+notification-form-requires : tie.Need-notification-form-requires
+notification-form-requires c κs = search needs
+
+fault-requires : tie.Need-fault-requires
+fault-requires c κs = search needs
+
+returns : tie.Need-returns
+unfolding fault refusal
+returns c = let s = now (c .before .before .before .before .args .s) in
+    let e = c .before .fault .ensures ∙ ap (λ (f : Form). fault f s) (c .before .before .notification-form .ensures) in
+    e ∙ sym (firstOf-here (faultLines notificationForm s) _ (λ z. c .if1 .taken (e ∙ z)))
+
+platform-fault-requires : tie.Need-platform-fault-requires
+platform-fault-requires c κs = search needs
+
+returns-2 : tie.Need-returns-2
+unfolding fault refusal
+returns-2 c = let s = now (c .before .before .before .before .before .before .args .s) in
+    let f = c .before .before .before in
+    let e = f .fault .ensures ∙ ap (λ (f : Form). fault f s) (f .before .notification-form .ensures) in
+    let p = c .before .platform-fault .ensures in
+    p
+    ∙ sym (firstOf-here (platformLines s) _ (λ z. c .if2 .taken (p ∙ z)))
+    ∙ sym (firstOf-past (faultLines notificationForm s) _ (fault-numbered notificationForm s) (was e (c .before .before .if1 .left)))
+
+checked-requires : tie.Need-checked-requires
+checked-requires c κs = search needs
+
+behind-requires : tie.Need-behind-requires
+behind-requires c κs = search needs
+
+operational-loop-requires : tie.Need-operational-loop-requires
+operational-loop-requires c κs = search needs
+
+returns-3 : tie.Need-returns-3
+unfolding fault refusal
+returns-3 c = let s = now (c .before .before .before .before .before .before .before .before .before .args .s) in
+    let f = c .before .before .before .before .before .before in
+    let e = f .fault .ensures ∙ ap (λ (f : Form). fault f s) (f .before .notification-form .ensures) in
+    let p = c .before .before .before .before .platform-fault .ensures in
+    c .operational-loop .ensures
+    ∙ ap (λ (l : List ℕ). loopFault true l false) (c .before .behind .ensures .bytes ∙ ap (λ (l : List ℕ). drop 12 l) (c .before .before .checked .ensures .bytes))
+    ∙ loops-told s
+    ∙ sym (firstOf-past (platformLines s) _ (platform-numbered s) (was p (c .before .before .before .if2 .left)))
+    ∙ sym (firstOf-past (faultLines notificationForm s) _ (fault-numbered notificationForm s) (was e (c .before .before .before .before .before .if1 .left)))
+
+pub refusal-spec : {M : Type 1} → statement M
+refusal-spec =
+    tie.close
+    (tie.spec
+    notification-form-requires
+    fault-requires
+    returns
+    platform-fault-requires
+    returns-2
+    checked-requires
+    behind-requires
+    operational-loop-requires
+    returns-3)

@@ -1,0 +1,93 @@
+-- What the readers of parts of a section give, each by the definitions of notification_rules.
+use Prim.Native.Nat.{ℕ, _+_, _≤_}
+use mathlib.Core.Path.{_≡_}
+use mathlib.Core.Bool.{Bool, true, false, not}
+use mathlib.Core.List.{List, []}
+use lib.ListN.{length, take, drop}
+use lib.Dec.{ltb}
+use denote.Ref.{RefT, now}
+use Rattle.wire.specs.Choice.{pick, both, either, first}
+use Rattle.rules.specs.declared.Address.{Address}
+use Rattle.notification_rules.specs.Cut.{Size, Cut, cutOf, isNil, every, odd, part, placed, Is}
+use Rattle.notification_rules.specs.Loop.{loopSize, content, filled, Pair, pairsOf, descriptorPieces, descriptorsOf}
+use Rattle.notification_rules.specs.Target.{isCover, coverOf, Location, nowhere, at, located, isLocation, orElse, Choice, none, one, firstPair}
+use Rattle.notification_rules.specs.Notice.{known}
+
+-- 32 where descriptors do not fill a loop, else 33 where a known one has another length, here or before, else 0
+unfoldable pub descriptorFault : List ℕ → Bool → ℕ
+descriptorFault b other = first (not (filled b)) 32 (first (either other (not (known b))) 33 0)
+
+-- loops that fill exactly; the first is a target loop where `turn` is false, so that they are even in number
+unfoldable pub fitsBy : Bool → Cut → Bool
+fitsBy turn c = both (isNil (c .left)) (both (pick turn (odd (c .pieces)) (not (odd (c .pieces)))) (every (λ l. filled (content l)) (c .pieces)))
+
+-- the same of loops by turns
+unfoldable pub loopFault : Bool → List ℕ → Bool → ℕ
+loopFault turn s other =
+    first (not (fitsBy turn (cutOf loopSize s))) 32 (first (either other (not (every (λ l. known (content l)) (cutOf loopSize s .pieces)))) 33 0)
+
+-- ---- a slice without its first k bytes
+pub record Behind (s : RefT (List ℕ)) (k : ℕ) (r : RefT (List ℕ)) : Type 0 where
+  pub bytes : now r ≡ drop k (now s)
+  pub place : k ≤ length (now s) → Is (s .ptr) (part k (drop k (now s))) r
+
+-- ---- a loop at a place
+unfoldable pub loopAt : List ℕ → ℕ → List ℕ
+loopAt s o = take (loopSize (drop o s)) (drop o s)
+
+-- what a loop at a place holds
+pub record Holds (s : RefT (List ℕ)) (o : ℕ) (r : RefT (List ℕ)) : Type 0 where
+  pub is : Is (s .ptr) (part (o + 2) (content (loopAt (now s) o))) r
+  pub size : 2 + length (now r) ≡ loopSize (drop o (now s))
+
+-- ---- the located descriptor of a loop, tag and length with it, or nothing
+abbrev pub Located : ℕ × ℕ → Location → RefT (List ℕ) → Type 0
+Located start nowhere r = now r ≡ []
+Located start (at d) r = Is start d r × (2 ≤ length (now r))
+
+-- r is the first 0x13 of the loop s, wherever in a section the loop stands
+abbrev pub Locates : RefT (List ℕ) → RefT (List ℕ) → Type 0
+Locates s r =
+    (start : ℕ × ℕ) → (o : ℕ) → Is start (part o (now s)) s → Located start (located (placed o (descriptorPieces (now s)))) r
+
+-- its body
+abbrev pub Picked : ℕ × ℕ → Location → RefT (List ℕ) → Type 0
+Picked start nowhere r = now r ≡ []
+Picked start (at d) r = Is start (part (d .place + 2) (drop 2 (d .bytes))) r
+
+-- r is the body of the first 0x13 of the one loop, else of the other, wherever in a section the two stand
+abbrev pub Picks : RefT (List ℕ) → RefT (List ℕ) → RefT (List ℕ) → Type 0
+Picks s t r =
+    (start : ℕ × ℕ) → (o p : ℕ) → Is start (part o (now s)) s → Is start (part p (now t)) t
+    → Picked start (orElse (located (placed o (descriptorPieces (now s)))) (located (placed p (descriptorPieces (now t))))) r
+
+-- ---- pairs from a place on
+-- whole pairs stand from here on to the end
+pub record Turns (s : List ℕ) (o : ℕ) : Type 0 where
+  pub inside : o ≤ length s
+  pub full : isNil (cutOf loopSize (drop o s) .left) ≡ true
+  pub even : odd (cutOf loopSize (drop o s) .pieces) ≡ false
+
+unfoldable pub pairsFrom : List ℕ → ℕ → List Pair
+pairsFrom s o = pairsOf (placed o (cutOf loopSize (drop o s) .pieces))
+
+unfoldable pub pairAt : List ℕ → ℕ → Pair
+pairAt s o =
+    record {
+      target = part o (loopAt s o);
+      operational = part (o + loopSize (drop o s)) (loopAt s (o + loopSize (drop o s)));
+    }
+
+-- the pair covers the device and has a location, where `general` says that the platform loop has one
+unfoldable pub answersBy : Address → Bool → Pair → Bool
+answersBy device general x =
+    both (isCover (coverOf device (x .target))) (either (isLocation (located (descriptorsOf (x .operational)))) general)
+
+-- the pair at a place, or none at the end
+unfoldable pub choiceAt : List ℕ → ℕ → Choice
+choiceAt s o = pick (ltb o (length s)) (one (pairAt s o)) none
+
+-- r is the place of the first pair from o on that answers, or the end
+pub record Chosen (device : Address) (general : Bool) (s : List ℕ) (o r : ℕ) : Type 0 where
+  pub first : choiceAt s r ≡ firstPair (answersBy device general) (pairsFrom s o)
+  pub turns : Turns s r

@@ -1,0 +1,73 @@
+// The descriptors of a target loop (EN 301 192, tables 24 and 25): whether one of their entries covers a device.
+use crate::loops::behind;
+use rules::Address;
+use wire::both;
+use wire::byte_at;
+ghost use mathlib.Core.Path.{_≡_};
+ghost use Prim.Native.Nat.{_≤_};
+ghost use Rattle.wire.specs.Bytes.{Reads, numberAt};
+ghost use Rattle.notification_rules.specs.Target.{addressNumber, sameUnder, inRange, entrySize, entryBytes, hit};
+
+// The address at i as 48 bits.
+fn address_at(s: &[u8], i: usize) -> usize
+    requires { ⌜ i ≤ 65535 ⌝ }
+    ensures { λ r. ⌜ Reads (numberAt 6 (now (s .entry)) i) 281474976710656 r ⌝ }
+{
+    wire::u16_at(s, i) * 4294967296 + wire::u32_at(s, i + 2)
+}
+
+fn address_number(a: Address) -> usize
+    ensures { λ r. ⌜ r ≡ addressNumber a ⌝ }
+{
+    address_at(&[a.mac1, a.mac2, a.mac3, a.mac4, a.mac5, a.mac6], 0)
+}
+
+// The address at the front is the device's under the mask's one bits.
+fn same_under(device: Address, mask: &[u8], e: &[u8]) -> bool
+    ensures { λ r. ⌜ r ≡ sameUnder device (now (mask .entry)) (now (e .entry)) ⌝ }
+{
+    let bits = address_at(mask, 0);
+    address_at(e, 0) & bits == address_number(device) & bits
+}
+
+// The device's address is not below the first address nor above the second, by the bytes' order as a number.
+fn in_range(device: Address, e: &[u8]) -> bool
+    ensures { λ r. ⌜ r ≡ inRange device (now (e .entry)) ⌝ }
+{
+    let own = address_number(device);
+    both(address_at(e, 0) <= own, own <= address_at(e, 6))
+}
+
+// The bytes of an entry: an address, or a lowest and a highest address.
+pub fn entry_size(tag: u8) -> usize
+    ensures { λ r. ⌜ r ≡ entrySize tag ⌝ }
+{
+    if tag == 0x07 {
+        return 6;
+    }
+    12
+}
+
+// The entries of a descriptor; other tags than 0x07 and 0x0E have none.
+pub fn entry_bytes<'a>(d: &'a [u8]) -> &'a [u8]
+    ensures { λ r. ⌜ now r ≡ entryBytes (now (d .entry)) ⌝ }
+{
+    let tag = byte_at(d, 0);
+    if tag == 0x07 {
+        return behind(d, 8);
+    }
+    if tag == 0x0e {
+        return behind(d, 2);
+    }
+    &d[..0]
+}
+
+// The entry e of the descriptor d covers the device.
+pub fn hit(device: Address, d: &[u8], e: &[u8]) -> bool
+    ensures { λ r. ⌜ r ≡ hit device (now (d .entry)) (now (e .entry)) ⌝ }
+{
+    if byte_at(d, 0) == 0x07 {
+        return same_under(device, behind(d, 2), e);
+    }
+    in_range(device, e)
+}

@@ -1,0 +1,9 @@
+pub mod Cuts
+pub mod Found
+pub mod Others
+pub mod Parts
+pub mod Pasts
+pub mod Pieces
+pub mod Places
+pub mod Sound
+pub mod Written

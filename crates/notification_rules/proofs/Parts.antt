@@ -1,0 +1,151 @@
+-- The pieces of a cut, joined, are the bytes that were cut; so each of them stands where `placed` puts it.
+use Prim.Native.Nat.{ℕ, zero, suc, _+_, _-_, _≤_, _<_}
+use native.Mathlib.Omega.{arith}
+use mathlib.Core.Path.{_≡_, refl, sym, ap, _∙_}
+use mathlib.Core.Bool.{Bool, true, false}
+use mathlib.Core.Logic.{_⊎_, inl, inr}
+use mathlib.Core.List.{List, [], _∷_, _++_, append-assoc, flatten, List·Memᴰ, List·Memᴰ·head, List·Memᴰ·tail, List·Memᴰ·not-nil, List·Memᴰ·cases-cons}
+use lib.ListN.{length, take, drop, length-append, length-drop, take-append-drop}
+use lib.Seq.{length-take-le, take-at, drop-at}
+use Rattle.wire.specs.Bytes.{byteAt}
+use Rattle.wire.specs.Choice.{both}
+use Rattle.wire.proofs.Choice.{never}
+use Rattle.notification_rules.specs.Cut.{Size, Cut, stop, more, whole, cutOf, every, Part, part, placed}
+use Rattle.notification_rules.specs.Loop.{descriptorSize, loopSize, descriptorPieces}
+use Rattle.notification_rules.specs.Right.{Stands}
+use Rattle.notification_rules.proofs.Cuts.{whole-true, cut-stop, cut-more}
+use Rattle.notification_rules.proofs.Pieces.{front, descriptor-two, loop-two}
+
+-- ---- what holds of nothing, and of a piece and what follows it, holds of a cut
+module _ (size : Size) (P : List ℕ → Cut → Type 0)
+    (none : (s : List ℕ) → whole size s ≡ false → P s (stop s))
+    (some : (s : List ℕ) → whole size s ≡ true → P (drop (size s) s) (cutOf size (drop (size s) s)) → P s (more (take (size s) s) (cutOf size (drop (size s) s)))) where
+  upTo : (k : ℕ) (s : List ℕ) → length s < k → P s (cutOf size s)
+  upTo zero s h = absurd (omega arith)
+  upTo (suc k) s h = go (whole size s) refl (upTo k (drop (size s) s))
+    where
+      go : (b : Bool) → whole size s ≡ b → (length (drop (size s) s) < k → P (drop (size s) s) (cutOf size (drop (size s) s))) → P s (cutOf size s)
+      go true e ih = rw (cut-more size s e) (some s e (ih (rw (length-drop (size s) s) (omega (arith, whole-true size s e)))))
+      go false e ih = rw (cut-stop size s e) (none s e)
+
+  pub induct : (s : List ℕ) → P s (cutOf size s)
+  induct s = upTo (suc (length s)) s (omega arith)
+
+-- the pieces, joined, and what is left
+pub rejoined : (size : Size) (s : List ℕ) → flatten (cutOf size s .pieces) ++ cutOf size s .left ≡ s
+unfolding flatten
+rejoined size =
+    induct size (λ s c. flatten (c .pieces) ++ c .left ≡ s) (λ s h. refl)
+    λ s h ih. append-assoc (take (size s) s) _ _ ∙ ap (λ (l : List ℕ). take (size s) s ++ l) ih ∙ take-append-drop (size s) s
+
+-- a descriptor is as long as it says
+pub descriptor-long : (s d : List ℕ) → List·Memᴰ d (descriptorPieces s) → length d ≡ 2 + byteAt d 1
+unfolding descriptorSize
+descriptor-long s d =
+    induct descriptorSize (λ s c. List·Memᴰ d (c .pieces) → length d ≡ 2 + byteAt d 1) (λ s h m. absurd (List·Memᴰ·not-nil m)) (λ s h ih m. go s h ih (List·Memᴰ·cases-cons m)) s
+  where
+    go : (s : List ℕ) → whole descriptorSize s ≡ true → (List·Memᴰ d (cutOf descriptorSize (drop (descriptorSize s) s) .pieces) → length d ≡ 2 + byteAt d 1)
+        → (d ≡ take (descriptorSize s) s) ⊎ List·Memᴰ d (cutOf descriptorSize (drop (descriptorSize s) s) .pieces) → length d ≡ 2 + byteAt d 1
+    go s h ih (inl e) =
+        rw (e, length-take-le (descriptorSize s) s (whole-true descriptorSize s h .1), front (descriptorSize s) 1 s (omega (arith, descriptor-two s)))
+    go s h ih (inr m) = ih m
+
+-- a loop has its two length bytes
+pub loop-long : (s l : List ℕ) → List·Memᴰ l (cutOf loopSize s .pieces) → 2 ≤ length l
+loop-long s l =
+    induct loopSize (λ s c. List·Memᴰ l (c .pieces) → 2 ≤ length l) (λ s h m. absurd (List·Memᴰ·not-nil m)) (λ s h ih m. go s h ih (List·Memᴰ·cases-cons m)) s
+  where
+    go : (s : List ℕ) → whole loopSize s ≡ true → (List·Memᴰ l (cutOf loopSize (drop (loopSize s) s) .pieces) → 2 ≤ length l)
+        → (l ≡ take (loopSize s) s) ⊎ List·Memᴰ l (cutOf loopSize (drop (loopSize s) s) .pieces) → 2 ≤ length l
+    go s h ih (inl e) = rw (e, length-take-le (loopSize s) s (whole-true loopSize s h .1)) (loop-two s)
+    go s h ih (inr m) = ih m
+
+-- ---- members
+pub every-one : {A : Type 0} (f : A → Bool) (xs : List A) (x : A) → every f xs ≡ true → List·Memᴰ x xs → f x ≡ true
+unfolding every both
+every-one f [] x h m = absurd (List·Memᴰ·not-nil m)
+every-one f (y ∷ ys) x h m = go (f y) refl h (every-one f ys x) (List·Memᴰ·cases-cons m)
+  where
+    go : (b : Bool) → f y ≡ b → both b (every f ys) ≡ true → (every f ys ≡ true → List·Memᴰ x ys → f x ≡ true) → (x ≡ y) ⊎ List·Memᴰ x ys → f x ≡ true
+    go true e h ih (inl q) = ap f q ∙ e
+    go true e h ih (inr m) = ih h m
+    go false e h ih q = absurd (never h)
+
+pub placed-member : (o : ℕ) (bs : List (List ℕ)) (p : Part) → List·Memᴰ p (placed o bs) → List·Memᴰ (p .bytes) bs
+unfolding placed
+placed-member o [] p m = absurd (List·Memᴰ·not-nil m)
+placed-member o (b ∷ bs) p m = go (List·Memᴰ·cases-cons m) (placed-member (o + length b) bs p)
+  where
+    go : (p ≡ part o b) ⊎ List·Memᴰ p (placed (o + length b) bs) → (List·Memᴰ p (placed (o + length b) bs) → List·Memᴰ (p .bytes) bs) → List·Memᴰ (p .bytes) (b ∷ bs)
+    go (inl e) ih = List·Memᴰ·head (ap (λ (q : Part). q .bytes) e)
+    go (inr n) ih = List·Memᴰ·tail (ih n)
+
+-- ---- where parts stand
+-- it stands in s, from o on, and no further than e
+pub record Between (s : List ℕ) (o e : ℕ) (p : Part) : Type 0 where
+  pub stands : Stands s p
+  pub begins : o ≤ p .place
+  pub ends : p .place + length (p .bytes) ≤ e
+
+pub placed-stands : (s : List ℕ) (o : ℕ) (bs : List (List ℕ)) (left : List ℕ) (p : Part) → Stands s (part o (flatten bs ++ left)) → List·Memᴰ p (placed o bs)
+    → Between s o (o + length (flatten bs ++ left)) p
+unfolding placed flatten
+placed-stands s o [] left p t m = absurd (List·Memᴰ·not-nil m)
+placed-stands s o (b ∷ bs) left p t m = go (List·Memᴰ·cases-cons m) (placed-stands s (o + length b) bs left p further)
+  where
+    long : length ((b ++ flatten bs) ++ left) ≡ length b + length (flatten bs ++ left)
+    long = ap length (append-assoc b (flatten bs) left) ∙ length-append b (flatten bs ++ left)
+
+    further : Stands s (part (o + length b) (flatten bs ++ left))
+    further =
+        record {
+          front = t .front ++ b;
+          back = t .back;
+          is = t .is ∙ ap (λ (l : List ℕ). t .front ++ l) (ap (λ (l : List ℕ). l ++ t .back) (append-assoc b (flatten bs) left) ∙ append-assoc b (flatten bs ++ left) (t .back)) ∙ sym (append-assoc (t .front) b ((flatten bs ++ left) ++ t .back));
+          place = ap (λ (n : ℕ). n + length b) (t .place) ∙ sym (length-append (t .front) b);
+        }
+
+    here : Stands s (part o b)
+    here =
+        record {
+          front = t .front;
+          back = (flatten bs ++ left) ++ t .back;
+          is = t .is ∙ ap (λ (l : List ℕ). t .front ++ l) (ap (λ (l : List ℕ). l ++ t .back) (append-assoc b (flatten bs) left) ∙ append-assoc b (flatten bs ++ left) (t .back));
+          place = t .place;
+        }
+
+    go : (p ≡ part o b) ⊎ List·Memᴰ p (placed (o + length b) bs) → (List·Memᴰ p (placed (o + length b) bs) → Between s (o + length b) (o + length b + length (flatten bs ++ left)) p)
+        → Between s o (o + length ((b ++ flatten bs) ++ left)) p
+    go (inl e) ih = rw e (record { stands = here; begins = omega arith; ends = omega (arith, long) })
+    go (inr n) ih = let r = ih n in record { stands = r .stands; begins = omega (arith, r .begins); ends = omega (arith, r .ends, long) }
+
+-- without its first bytes a part stands as many places later
+pub stands-behind : (s : List ℕ) (p : Part) (k : ℕ) → k ≤ length (p .bytes) → Stands s p → Stands s (part (p .place + k) (drop k (p .bytes)))
+stands-behind s p k h t =
+    record {
+      front = t .front ++ take k (p .bytes);
+      back = t .back;
+      is = t .is ∙ ap (λ (l : List ℕ). t .front ++ (l ++ t .back)) (sym (take-append-drop k (p .bytes))) ∙ ap (λ (l : List ℕ). t .front ++ l) (append-assoc (take k (p .bytes)) (drop k (p .bytes)) (t .back)) ∙ sym (append-assoc (t .front) (take k (p .bytes)) (drop k (p .bytes) ++ t .back));
+      place = omega (arith, t .place, length-append (t .front) (take k (p .bytes)), length-take-le k (p .bytes) h);
+    }
+
+-- a part that stands in the first c bytes stands in all of them
+pub stands-longer : (s : List ℕ) (c : ℕ) (p : Part) → Stands (take c s) p → Stands s p
+stands-longer s c p t =
+    record {
+      front = t .front;
+      back = t .back ++ drop c s;
+      is = sym (take-append-drop c s) ∙ ap (λ (l : List ℕ). l ++ drop c s) (t .is) ∙ append-assoc (t .front) (p .bytes ++ t .back) (drop c s) ∙ ap (λ (l : List ℕ). t .front ++ l) (append-assoc (p .bytes) (t .back) (drop c s));
+      place = t .place;
+    }
+
+-- its bytes are those that stand at its place
+pub stands-bytes : (s : List ℕ) (p : Part) (n : ℕ) → length (p .bytes) ≡ n → Stands s p → take n (drop (p .place) s) ≡ p .bytes
+stands-bytes s p n e t =
+    ap (λ (l : List ℕ). take n (drop (p .place) l)) (t .is)
+    ∙ ap (λ (l : List ℕ). take n l) (drop-at (t .front) (p .bytes ++ t .back) (p .place) (sym (t .place)))
+    ∙ take-at (p .bytes) (t .back) n e
+
+-- it ends no later than s
+pub stands-inside : (s : List ℕ) (p : Part) → Stands s p → p .place + length (p .bytes) ≤ length s
+stands-inside s p t = omega (arith, t .place, ap length (t .is), length-append (t .front) (p .bytes ++ t .back), length-append (p .bytes) (t .back))

@@ -1,0 +1,5 @@
+pub mod Cut
+pub mod Loop
+pub mod Target
+pub mod Notice
+pub mod Right

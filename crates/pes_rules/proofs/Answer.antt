@@ -1,0 +1,103 @@
+-- No refusal has the number 0 or 5, so a packet is answered 5 exactly where no line applies.
+use Prim.Native.Nat.{ℕ, _≤_}
+use native.Mathlib.Omega.{arith}
+use mathlib.Core.Path.{_≡_, refl, sym}
+use mathlib.Core.List.{List}
+use mathlib.Core.Bool.{Bool, true, false}
+use lib.ListN.{length}
+use lib.Seq.{slice}
+use lib.Dec.{eqb}
+use borrow.Author.Tests.{eq-eqb, eqb-true, ltb-false}
+use Rattle.wire.specs.Bytes.{byteAt, bits, numberAt}
+use Rattle.wire.specs.Choice.{pick, either, first, firstOf}
+use Rattle.wire.proofs.Choice.{either-false, never}
+use Rattle.pes_rules.specs.declared.Reading.{Reading}
+use Rattle.pes_rules.specs.Packet.{dataIdentifier, subStreamId, ptsExtensionFlag, outputDataRateFlag, flagged, ptsExtension, ratePlace, outputDataRate, privatePlace, dataPlace, wrongSize, otherIdentifier, wrongFlags, wrongHeaderLength, fault, refused, taken, readOf}
+use Rattle.pes_rules.specs.Written.{Values, valuesOf}
+
+-- ---- the table
+pub record None (s : List ℕ) : Type 0 where
+  pub no40 : wrongSize s ≡ false
+  pub no41 : otherIdentifier s ≡ false
+  pub no42 : wrongFlags s ≡ false
+  pub no43 : wrongHeaderLength s ≡ false
+
+first-not : (t : Bool) (n rest m : ℕ) → (n ≡ m → ⊥) → (rest ≡ m → ⊥) → first t n rest ≡ m → ⊥
+unfolding first
+first-not true n rest m h k e = h e
+first-not false n rest m h k e = k e
+
+first-past : (t : Bool) (n rest : ℕ) → (n ≡ 0 → ⊥) → first t n rest ≡ 0 → (t ≡ false) × (rest ≡ 0)
+unfolding first
+first-past true n rest h e = absurd (h e)
+first-past false n rest h e = (refl, e)
+
+not-five : (s : List ℕ) → fault s ≡ 5 → ⊥
+unfolding firstOf
+not-five s =
+    first-not _ _ _ 5 (λ e. omega arith) (first-not _ _ _ 5 (λ e. omega arith)
+    (first-not _ _ _ 5 (λ e. omega arith) (first-not _ _ 0 5 (λ e. omega arith) (λ e. omega arith))))
+
+pub no-fault : (s : List ℕ) → fault s ≡ 0 → None s
+unfolding firstOf
+no-fault s e =
+    let a = first-past _ _ _ (λ z. omega arith) e in
+    let b = first-past _ _ _ (λ z. omega arith) (a .1) in
+    let c = first-past _ _ _ (λ z. omega arith) (b .1) in
+    let d = first-past _ _ 0 (λ z. omega arith) (c .1) in
+    record { no40 = a .0; no41 = b .0; no42 = c .0; no43 = d .0 }
+
+pub fault-none : (s : List ℕ) → None s → fault s ≡ 0
+unfolding firstOf first
+fault-none s n = rw (n .no40, n .no41, n .no42, n .no43)
+
+-- ---- the answer
+pub answered : (s : List ℕ) → readOf s .answer ≡ 5 → fault s ≡ 0
+unfolding readOf pick
+answered s = go (eqb (fault s) 0) refl
+  where
+    go : (t : Bool) → eqb (fault s) 0 ≡ t → pick t (taken s) (refused (fault s)) .answer ≡ 5 → fault s ≡ 0
+    go true e h = eqb-true (fault s) 0 e
+    go false e h = absurd (not-five s h)
+
+pub read-taken : (s : List ℕ) → fault s ≡ 0 → readOf s ≡ taken s
+unfolding readOf pick
+read-taken s e = rw (eq-eqb (fault s) 0 e)
+
+-- the values of a packet that no line applies to
+abbrev pub takenValues : List ℕ → Values
+takenValues s =
+    record {
+      dataIdentifier = dataIdentifier s;
+      subStreamId = subStreamId s;
+      ptsExtensionFlag = ptsExtensionFlag s;
+      outputDataRateFlag = outputDataRateFlag s;
+      reserved2 = bits 5 4 (byteAt s 2);
+      reserved7 = flagged (ptsExtensionFlag s) (bits 15 9 (numberAt 2 s 3));
+      ptsExtension = ptsExtension s;
+      reserved4 = flagged (outputDataRateFlag s) (bits 31 28 (numberAt 4 s (ratePlace s)));
+      outputDataRate = outputDataRate s;
+      privateBytes = slice (privatePlace s) (dataPlace s) s;
+      dataBytes = slice (dataPlace s) (length s) s;
+    }
+
+pub values-taken : (s : List ℕ) → fault s ≡ 0 → valuesOf s ≡ takenValues s
+unfolding valuesOf
+values-taken s e = rw (read-taken s e)
+
+-- ---- the data's place
+pub within : (s : List ℕ) → None s → dataPlace s ≤ length s
+within s n = ltb-false (length s) (dataPlace s) (either-false _ _ (n .no43) .1)
+
+pub record Within (start end : ℕ) (s : List ℕ) : Type 0 where
+  pub order : start ≤ end
+  pub inside : end ≤ length s
+
+pub data-within : (s : List ℕ) (r : Reading) → r ≡ readOf s → Within (r .start) (r .end) s
+unfolding readOf pick
+data-within s r e = rw e (go (eqb (fault s) 0) refl)
+  where
+    go : (t : Bool) → eqb (fault s) 0 ≡ t
+        → Within (pick t (taken s) (refused (fault s)) .start) (pick t (taken s) (refused (fault s)) .end) s
+    go true z = record { order = within s (no-fault s (eqb-true (fault s) 0 z)); inside = omega arith }
+    go false z = record { order = omega arith; inside = omega arith }

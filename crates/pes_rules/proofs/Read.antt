@@ -1,0 +1,155 @@
+-- Each part of a packet that is answered 5 is the next stretch of its bytes: put side by side they are the packet.
+use Prim.Native.Nat.{ℕ, zero, suc, _+_, _*_, _-_, _/_, _%_, _^_, _≤_, _<_}
+use native.Mathlib.Nat.{mod-eq-of-lt}
+use lib.Arith.{mod-mul}
+use native.Mathlib.Omega.{arith}
+use mathlib.Core.Path.{_≡_, refl, sym, ap, _∙_}
+use mathlib.Core.Logic.{inl, inr}
+use mathlib.Core.List.{List, [], _∷_, _++_}
+use mathlib.Core.Bool.{Bool, true, false, not}
+use lib.ListN.{length, take, drop, length-drop, length-take, take-append-drop}
+use lib.Seq.{drop-drop, length-take-le, slice, take-add, take-length}
+use lib.Dec.{eqb, ltb, lit<}
+use borrow.Author.Tests.{eqb-true, ltb-false}
+use Rattle.wire.specs.Bytes.{byteAt, bits, numberAt, bytesOf}
+use Rattle.wire.specs.Choice.{pick, both, either}
+use Rattle.wire.proofs.Choice.{either-false, never}
+use Rattle.pes_rules.specs.Packet.{dataIdentifier, ptsExtensionFlag, outputDataRateFlag, pesDataPacketHeaderLength, flagged, ptsExtension, ratePlace, outputDataRate, privatePlace, dataPlace}
+use Rattle.pes_rules.specs.Written.{Bytes, Conforms, extensionField, flagsByte, IsWritten, optionalFields, packetOf, rateField, ReadIsWritten, Stream, Values}
+use Rattle.pes_rules.proofs.Answer.{answered, no-fault, None, takenValues, values-taken, within}
+use Rattle.pes_rules.proofs.Bytes.{bytesOf-numberAt, numberAt-lt, slice-bytes, slice-is}
+
+-- ---- identifier and flags
+stream-of : (n : ℕ) (e w : Bool) → both (not (eqb n 0x21)) (not (eqb n 0x22)) ≡ false
+    → either (both (eqb n 0x21) (not e)) (both (eqb n 0x22) w) ≡ false
+    → Stream n e w
+unfolding both either
+stream-of n e w = go (eqb n 0x21) (eqb n 0x22) e w refl refl
+  where
+    go : (t u e w : Bool) → eqb n 0x21 ≡ t → eqb n 0x22 ≡ u → both (not t) (not u) ≡ false
+        → either (both t (not e)) (both u w) ≡ false → Stream n e w
+    go true u true w a b h k = inl (eqb-true n 0x21 a, refl)
+    go true u false w a b h k = absurd (never (sym k))
+    go false true e true a b h k = absurd (never (sym k))
+    go false true e false a b h k = inr (eqb-true n 0x22 b, refl)
+    go false false e w a b h k = absurd (never (sym h))
+
+-- ---- flagged numbers
+pub flagged-lt : (flag : Bool) (x k : ℕ) → x < 2 ^ k → flagged flag x < 2 ^ flagged flag k
+unfolding flagged pick
+flagged-lt true x k h = h
+flagged-lt false x k h = lit< tt
+
+-- a flag's bit
+flag-bit : (x n : ℕ) → x < 2 → flagged (eqb x 1) n ≡ x * n
+unfolding flagged pick
+flag-bit zero n h = omega arith
+flag-bit (suc zero) n h = omega arith
+flag-bit (suc (suc x)) n h = absurd (omega arith)
+
+-- the parts of byte 2
+byte-parts : (b : ℕ) → b < 256 → b / 128 % 2 * 128 + b / 64 % 2 * 64 + b / 16 % 4 * 16 + b % 16 ≡ b
+byte-parts b h =
+    let p : b % 256 ≡ b / 128 % 2 * 128 + b % 128 = mod-mul b (lit< tt) (lit< tt) in
+    let q : b % 128 ≡ b / 64 % 2 * 64 + b % 64 = mod-mul b (lit< tt) (lit< tt) in
+    let r : b % 64 ≡ b / 16 % 4 * 16 + b % 16 = mod-mul b (lit< tt) (lit< tt) in
+    omega (arith, mod-eq-of-lt h, p, q, r)
+
+-- a field of n bytes at i, its k low bits and those above them put together again
+field-is : (flag : Bool) (n i k high : ℕ) (s : List ℕ) → Bytes s → i + flagged flag n ≤ length s
+    → high * 2 ^ k + numberAt n s i % 2 ^ k ≡ numberAt n s i
+    → pick flag (bytesOf n (flagged flag high * 2 ^ k + flagged flag (numberAt n s i % 2 ^ k))) []
+    ≡ take (flagged flag n) (drop i s)
+unfolding flagged pick
+field-is true n i k high s h l e = ap (bytesOf n) e ∙ bytesOf-numberAt n s i h l
+field-is false n i k high s h l e = refl
+
+-- three stretches side by side
+stretches : (s : List ℕ) (a b c : ℕ)
+    → take a (drop 3 s) ++ (take b (drop (3 + a) s) ++ take c (drop (3 + a + b) s)) ≡ take (a + (b + c)) (drop 3 s)
+stretches s a b c =
+    let d : drop (3 + a) s ≡ drop a (drop 3 s) = sym (drop-drop a 3 s) in
+    let f : drop (3 + a + b) s ≡ drop b (drop a (drop 3 s)) = sym (drop-drop b (3 + a) s) ∙ ap (drop b) d in
+    rw (d, f, take-add a (b + c) (drop 3 s), take-add b c (drop a (drop 3 s)))
+
+three : (s : List ℕ) → 3 ≤ length s → byteAt s 0 ∷ byteAt s 1 ∷ byteAt s 2 ∷ drop 3 s ≡ s
+three [] h = absurd (omega arith)
+three (a ∷ []) h = absurd (omega arith)
+three (a ∷ b ∷ []) h = absurd (omega arith)
+three (a ∷ b ∷ c ∷ s) h = refl
+
+-- ---- the packet
+module _ (s : List ℕ) (h : Bytes s) (n : None s) where
+  long : 3 ≤ length s
+  long = ltb-false (length s) 3 (either-false _ _ (n .no40) .0)
+
+  short : length s ≤ 65535
+  short = ltb-false 65535 (length s) (either-false _ _ (n .no40) .1)
+
+  behind : privatePlace s ≤ dataPlace s
+  behind = ltb-false (dataPlace s) (privatePlace s) (either-false _ _ (n .no43) .0)
+
+  extension-is : extensionField (takenValues s) ≡ take (flagged (ptsExtensionFlag s) 2) (drop 3 s)
+  unfolding extensionField
+  extension-is =
+      let l : 3 + flagged (ptsExtensionFlag s) 2 ≤ length s = omega (arith, behind, within s n) in
+      field-is (ptsExtensionFlag s) 2 3 9 (bits 15 9 (numberAt 2 s 3)) s h l (omega (arith, numberAt-lt 2 s 3 h))
+
+  rate-is : rateField (takenValues s) ≡ take (flagged (outputDataRateFlag s) 4) (drop (ratePlace s) s)
+  unfolding rateField
+  rate-is =
+      let x : ℕ = numberAt 4 s (ratePlace s) in
+      let l : ratePlace s + flagged (outputDataRateFlag s) 4 ≤ length s = omega (arith, behind, within s n) in
+      field-is (outputDataRateFlag s) 4 (ratePlace s) 28 (bits 31 28 x) s h l (omega (arith, numberAt-lt 4 s (ratePlace s) h))
+
+  optional-is : optionalFields (takenValues s) ≡ take (pesDataPacketHeaderLength s) (drop 3 s)
+  unfolding optionalFields
+  optional-is =
+      let a : ℕ = flagged (ptsExtensionFlag s) 2 in
+      let b : ℕ = flagged (outputDataRateFlag s) 4 in
+      let k : a + (b + (dataPlace s - privatePlace s)) ≡ pesDataPacketHeaderLength s = omega (arith, behind) in
+      rw (extension-is, rate-is, slice-is (privatePlace s) (dataPlace s) s)
+      (stretches s a b (dataPlace s - privatePlace s) ∙ ap (λ (m : ℕ). take m (drop 3 s)) k)
+
+  header-is : length (optionalFields (takenValues s)) ≡ pesDataPacketHeaderLength s
+  header-is =
+      let l : pesDataPacketHeaderLength s ≤ length (drop 3 s) = omega (arith, within s n, length-drop 3 s) in
+      ap length optional-is ∙ length-take-le (pesDataPacketHeaderLength s) (drop 3 s) l
+
+  flags-is : flagsByte (takenValues s) ≡ byteAt s 2
+  unfolding flagsByte
+  flags-is =
+      let b : ℕ = byteAt s 2 in
+      let f7 : flagged (ptsExtensionFlag s) 128 ≡ b / 128 % 2 * 128 = flag-bit (b / 128 % 2) 128 (omega arith) in
+      let f6 : flagged (outputDataRateFlag s) 64 ≡ b / 64 % 2 * 64 = flag-bit (b / 64 % 2) 64 (omega arith) in
+      rw (f7, f6, header-is) (byte-parts b (h 2))
+
+  data-is : slice (dataPlace s) (length s) s ≡ drop (pesDataPacketHeaderLength s) (drop 3 s)
+  data-is = ap (drop (dataPlace s)) (take-length s) ∙ sym (drop-drop (pesDataPacketHeaderLength s) 3 s)
+
+  written-is : packetOf (takenValues s) ≡ s
+  unfolding packetOf
+  written-is =
+      rw (flags-is, optional-is, data-is, take-append-drop (pesDataPacketHeaderLength s) (drop 3 s)) (three s long)
+
+  conforms : Conforms (takenValues s)
+  conforms =
+      record {
+        stream = stream-of (dataIdentifier s) (ptsExtensionFlag s) (outputDataRateFlag s) (n .no41) (n .no42);
+        subStream = h 1;
+        beforeLength = omega arith;
+        header = omega (arith, header-is);
+        beforeExtension = flagged-lt (ptsExtensionFlag s) (bits 15 9 (numberAt 2 s 3)) 7 (omega arith);
+        extension = flagged-lt (ptsExtensionFlag s) (numberAt 2 s 3 % 2 ^ 9) 9 (omega arith);
+        beforeRate = flagged-lt (outputDataRateFlag s) (bits 31 28 (numberAt 4 s (ratePlace s))) 4 (omega arith);
+        rate = flagged-lt (outputDataRateFlag s) (numberAt 4 s (ratePlace s) % 2 ^ 28) 28 (omega arith);
+        skipped = slice-bytes (privatePlace s) (dataPlace s) s h;
+        carried = slice-bytes (dataPlace s) (length s) s h;
+        size = rw written-is short;
+      }
+
+pub read-is-written : ReadIsWritten
+read-is-written s h a =
+    let z = answered s a in
+    let n = no-fault s z in
+    record { conforms = rw (values-taken s z) (conforms s h n); written = rw (values-taken s z) (written-is s h n) }

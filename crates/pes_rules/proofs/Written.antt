@@ -1,0 +1,266 @@
+-- The bytes stand where table 1 puts them, so each field reads what was written there, and the lengths say where the parts end.
+use Prim.Native.Nat.{ℕ, _+_, _*_, _-_, _/_, _%_, _^_, _≤_, _<_}
+use native.Mathlib.Nat.{mod-eq-of-lt}
+use native.Mathlib.Omega.{arith}
+use mathlib.Core.Path.{_≡_, refl, sym, ap, _∙_}
+use mathlib.Core.Logic.{inl, inr}
+use mathlib.Core.List.{List, [], _∷_, _++_, append-assoc}
+use mathlib.Core.Bool.{Bool, true, false, not}
+use lib.Arith.{digits-div, digits-lt, digits-mod, lt-one}
+use lib.ListN.{length, take, drop, length-append}
+use lib.Seq.{drop-at, slice, take-at, take-length}
+use lib.Dec.{eqb, lit<}
+use borrow.Author.Tests.{le-ltb}
+use Rattle.wire.specs.Bytes.{byteAt, bits, numberAt, bytesOf}
+use Rattle.wire.specs.Choice.{pick, both, either}
+use Rattle.wire.proofs.Bytes.{length-bytesOf, numberAt-bytesOf}
+use Rattle.wire.proofs.Choice.{not-either}
+use Rattle.pes_rules.specs.Packet.{dataIdentifier, subStreamId, ptsExtensionFlag, outputDataRateFlag, pesDataPacketHeaderLength, flagged, ptsExtension, ratePlace, outputDataRate, privatePlace, dataPlace, wrongSize, otherIdentifier, wrongFlags, wrongHeaderLength, taken}
+use Rattle.pes_rules.specs.Written.{Bytes, Conforms, extensionField, flagsByte, IsRead, optionalFields, packetOf, rateField, Stream, Values, WrittenIsRead}
+use Rattle.pes_rules.proofs.Answer.{fault-none, None, read-taken, takenValues, values-taken}
+use Rattle.pes_rules.proofs.Bytes.{append-bytes, bytesOf-bytes, cons-bytes}
+
+-- ---- byte 2
+bit-flag : (x : ℕ) (flag : Bool) → x ≡ flagged flag 1 → eqb x 1 ≡ flag
+unfolding flagged pick
+bit-flag x true e = rw e refl
+bit-flag x false e = rw e refl
+
+record Parts (b : ℕ) (e w : Bool) (r l : ℕ) : Type 0 where
+  seven : b / 128 % 2 ≡ flagged e 1
+  six : b / 64 % 2 ≡ flagged w 1
+  between : b / 16 % 4 ≡ r
+  low : b % 16 ≡ l
+  fits : b < 256
+
+parts : (e w : Bool) (r l : ℕ) → r < 4 → l < 16 → Parts (flagged e 128 + flagged w 64 + r * 16 + l) e w r l
+unfolding flagged pick
+parts true true r l h k =
+    record { seven = omega arith; six = omega arith; between = omega arith; low = omega arith; fits = omega arith }
+parts true false r l h k =
+    record { seven = omega arith; six = omega arith; between = omega arith; low = omega arith; fits = omega arith }
+parts false true r l h k =
+    record { seven = omega arith; six = omega arith; between = omega arith; low = omega arith; fits = omega arith }
+parts false false r l h k =
+    record { seven = omega arith; six = omega arith; between = omega arith; low = omega arith; fits = omega arith }
+
+-- ---- a field of n bytes behind p: j high bits and k low bits
+length-field : (flag : Bool) (n x : ℕ) → length (pick flag (bytesOf n x) []) ≡ flagged flag n
+unfolding flagged pick
+length-field true n x = length-bytesOf n x
+length-field false n x = refl
+
+field-bytes : (flag : Bool) (n x : ℕ) → Bytes (pick flag (bytesOf n x) [])
+unfolding pick
+field-bytes true n x = bytesOf-bytes n x
+field-bytes false n x = λ i. lit< tt
+
+module _ (n j k high low : ℕ) (p q : List ℕ) (w : 2 ^ j * 2 ^ k ≡ 256 ^ n) where
+  abbrev behind : Bool → List ℕ
+  behind flag = p ++ (pick flag (bytesOf n (high * 2 ^ k + low)) [] ++ q)
+
+  whole : high < 2 ^ j → low < 2 ^ k
+      → numberAt n (p ++ (bytesOf n (high * 2 ^ k + low) ++ q)) (length p) ≡ high * 2 ^ k + low
+  whole h l = numberAt-bytesOf n (high * 2 ^ k + low) p q ∙ mod-eq-of-lt (rw (← w) (digits-lt h l))
+
+  low-read : (flag : Bool) → high < 2 ^ flagged flag j → low < 2 ^ flagged flag k
+      → flagged flag (numberAt n (behind flag) (length p) % 2 ^ k) ≡ low
+  unfolding flagged pick
+  low-read true h l = ap (λ (x : ℕ). x % 2 ^ k) (whole h l) ∙ digits-mod high l
+  low-read false h l = sym (lt-one l)
+
+  high-read : (flag : Bool) → high < 2 ^ flagged flag j → low < 2 ^ flagged flag k
+      → flagged flag (numberAt n (behind flag) (length p) / 2 ^ k % 2 ^ j) ≡ high
+  unfolding flagged pick
+  high-read true h l =
+      ap (λ (x : ℕ). x / 2 ^ k % 2 ^ j) (whole h l)
+      ∙ ap (λ (x : ℕ). x % 2 ^ j) (digits-div high l) ∙ mod-eq-of-lt h
+  high-read false h l = sym (lt-one h)
+
+-- ---- the packet
+module _ (v : Values) (k : Conforms v) where
+  abbrev s : List ℕ
+  s = packetOf v
+
+  abbrev front : List ℕ → List ℕ
+  front l = v .dataIdentifier ∷ v .subStreamId ∷ flagsByte v ∷ l
+
+  byte2 : Parts (flagsByte v) (v .ptsExtensionFlag) (v .outputDataRateFlag) (v .reserved2) (length (optionalFields v))
+  unfolding flagsByte
+  byte2 =
+      parts (v .ptsExtensionFlag) (v .outputDataRateFlag) (v .reserved2) (length (optionalFields v)) (k .beforeLength)
+      (k .header)
+
+  identified : dataIdentifier s ≡ v .dataIdentifier
+  unfolding packetOf
+  identified = refl
+
+  subStream : subStreamId s ≡ v .subStreamId
+  unfolding packetOf
+  subStream = refl
+
+  reserved : bits 5 4 (byteAt s 2) ≡ v .reserved2
+  unfolding packetOf
+  reserved = byte2 .between
+
+  extended : ptsExtensionFlag s ≡ v .ptsExtensionFlag
+  unfolding packetOf
+  extended = bit-flag _ (v .ptsExtensionFlag) (byte2 .seven)
+
+  rated : outputDataRateFlag s ≡ v .outputDataRateFlag
+  unfolding packetOf
+  rated = bit-flag _ (v .outputDataRateFlag) (byte2 .six)
+
+  header : pesDataPacketHeaderLength s ≡ length (optionalFields v)
+  unfolding packetOf
+  header = byte2 .low
+
+  -- ---- lengths
+  length-extension : length (extensionField v) ≡ flagged (v .ptsExtensionFlag) 2
+  unfolding extensionField
+  length-extension = length-field (v .ptsExtensionFlag) 2 _
+
+  length-rate : length (rateField v) ≡ flagged (v .outputDataRateFlag) 4
+  unfolding rateField
+  length-rate = length-field (v .outputDataRateFlag) 4 _
+
+  place-rate : ratePlace s ≡ length (front (extensionField v))
+  place-rate = rw extended (omega (arith, length-extension))
+
+  place-private : privatePlace s ≡ length (front (extensionField v ++ rateField v))
+  place-private = rw rated (omega (arith, place-rate, length-rate, length-append (extensionField v) (rateField v)))
+
+  place-data : dataPlace s ≡ length (front (optionalFields v))
+  place-data = omega (arith, header)
+
+  length-packet : length s ≡ length (front (optionalFields v)) + length (v .dataBytes)
+  unfolding packetOf
+  length-packet = omega (arith, length-append (optionalFields v) (v .dataBytes))
+
+  -- ---- parts
+  body : s ≡ front (extensionField v ++ (rateField v ++ (v .privateBytes ++ v .dataBytes)))
+  unfolding packetOf optionalFields
+  body =
+      ap front
+      (append-assoc (extensionField v) (rateField v ++ v .privateBytes) (v .dataBytes)
+      ∙ ap (λ (l : List ℕ). extensionField v ++ l) (append-assoc (rateField v) (v .privateBytes) (v .dataBytes)))
+
+  privately : slice (privatePlace s) (dataPlace s) s ≡ v .privateBytes
+  unfolding packetOf optionalFields
+  privately =
+      ap (drop (privatePlace s)) (take-at (front (optionalFields v)) (v .dataBytes) (dataPlace s) (sym place-data))
+      ∙ ap (λ (l : List ℕ). drop (privatePlace s) (front l))
+      (sym (append-assoc (extensionField v) (rateField v) (v .privateBytes)))
+      ∙ drop-at (front (extensionField v ++ rateField v)) (v .privateBytes) (privatePlace s) (sym place-private)
+
+  carried : slice (dataPlace s) (length s) s ≡ v .dataBytes
+  unfolding packetOf
+  carried =
+      ap (drop (dataPlace s)) (take-length s)
+      ∙ drop-at (front (optionalFields v)) (v .dataBytes) (dataPlace s) (sym place-data)
+
+  -- ---- flagged fields
+  abbrev behindExtension : List ℕ
+  behindExtension = rateField v ++ (v .privateBytes ++ v .dataBytes)
+
+  abbrev behindRate : List ℕ
+  behindRate = v .privateBytes ++ v .dataBytes
+
+  extension-low : ptsExtension s ≡ v .ptsExtension
+  unfolding extensionField
+  extension-low =
+      rw (extended, body)
+      (low-read 2 7 9 (v .reserved7) (v .ptsExtension) (front []) behindExtension refl
+      (v .ptsExtensionFlag) (k .beforeExtension) (k .extension))
+
+  extension-high : flagged (ptsExtensionFlag s) (bits 15 9 (numberAt 2 s 3)) ≡ v .reserved7
+  unfolding extensionField
+  extension-high =
+      rw (extended, body)
+      (high-read 2 7 9 (v .reserved7) (v .ptsExtension) (front []) behindExtension refl
+      (v .ptsExtensionFlag) (k .beforeExtension) (k .extension))
+
+  rate-low : outputDataRate s ≡ v .outputDataRate
+  unfolding rateField
+  rate-low =
+      rw (rated, place-rate, body)
+      (low-read 4 4 28 (v .reserved4) (v .outputDataRate) (front (extensionField v)) behindRate refl
+      (v .outputDataRateFlag) (k .beforeRate) (k .rate))
+
+  rate-high : flagged (outputDataRateFlag s) (bits 31 28 (numberAt 4 s (ratePlace s))) ≡ v .reserved4
+  unfolding rateField
+  rate-high =
+      rw (rated, place-rate, body)
+      (high-read 4 4 28 (v .reserved4) (v .outputDataRate) (front (extensionField v)) behindRate refl
+      (v .outputDataRateFlag) (k .beforeRate) (k .rate))
+
+  -- ---- no line applies
+  no40 : wrongSize s ≡ false
+  no40 =
+      let l : 3 ≤ length s = omega (arith, length-packet) in
+      sym (not-either _ (le-ltb (length s) 3 l) (sym (le-ltb 65535 (length s) (k .size))))
+
+  no41 : otherIdentifier s ≡ false
+  unfolding packetOf both
+  no41 = go (v .dataIdentifier) (k .stream)
+    where
+      go : (n : ℕ) → Stream n (v .ptsExtensionFlag) (v .outputDataRateFlag)
+          → both (not (eqb n 0x21)) (not (eqb n 0x22)) ≡ false
+      go n (inl p) = rw (p .0) refl
+      go n (inr p) = rw (p .0) refl
+
+  no42 : wrongFlags s ≡ false
+  unfolding packetOf both either
+  no42 = rw (extended, rated) (go (v .dataIdentifier) (v .ptsExtensionFlag) (v .outputDataRateFlag) (k .stream))
+    where
+      go : (n : ℕ) (e w : Bool) → Stream n e w
+          → either (both (eqb n 0x21) (not e)) (both (eqb n 0x22) w) ≡ false
+      go n e w (inl p) = rw (p .0, p .1) refl
+      go n e w (inr p) = rw (p .0, p .1) refl
+
+  no43 : wrongHeaderLength s ≡ false
+  unfolding optionalFields
+  no43 =
+      let l = length-append (extensionField v) (rateField v ++ v .privateBytes) in
+      let m = length-append (rateField v) (v .privateBytes) in
+      let o = length-append (extensionField v) (rateField v) in
+      let a : privatePlace s ≤ dataPlace s = omega (arith, place-private, place-data, l, m, o) in
+      let b : dataPlace s ≤ length s = omega (arith, place-data, length-packet) in
+      sym (not-either _ (le-ltb (dataPlace s) (privatePlace s) a) (sym (le-ltb (length s) (dataPlace s) b)))
+
+  none : None s
+  none = record { no40 = no40; no41 = no41; no42 = no42; no43 = no43 }
+
+  -- ---- the packet is bytes
+  identifier-lt : v .dataIdentifier < 256
+  identifier-lt = go (v .dataIdentifier) (k .stream)
+    where
+      go : (n : ℕ) → Stream n (v .ptsExtensionFlag) (v .outputDataRateFlag) → n < 256
+      go n (inl p) = omega (arith, p .0)
+      go n (inr p) = omega (arith, p .0)
+
+  bytes : Bytes s
+  unfolding packetOf optionalFields extensionField rateField
+  bytes =
+      let x = field-bytes (v .ptsExtensionFlag) 2 (v .reserved7 * 2 ^ 9 + v .ptsExtension) in
+      let y = field-bytes (v .outputDataRateFlag) 4 (v .reserved4 * 2 ^ 28 + v .outputDataRate) in
+      let o = append-bytes (extensionField v) _ x (append-bytes (rateField v) (v .privateBytes) y (k .skipped)) in
+      let b = append-bytes (optionalFields v) (v .dataBytes) o (k .carried) in
+      let l : List ℕ = optionalFields v ++ v .dataBytes in
+      let c = cons-bytes (v .subStreamId) (flagsByte v ∷ l) (k .subStream) (cons-bytes (flagsByte v) l (byte2 .fits) b) in
+      cons-bytes (v .dataIdentifier) (v .subStreamId ∷ flagsByte v ∷ l) identifier-lt c
+
+  -- ---- every value is read back
+  values : takenValues s ≡ v
+  values =
+      rw (extension-low, extension-high, rate-low, rate-high, privately, carried)
+      (rw (extended, rated, identified, subStream, reserved) refl)
+
+pub written-is-read : WrittenIsRead
+written-is-read v k =
+    let z = fault-none (packetOf v) (none v k) in
+    record {
+      bytes = bytes v k;
+      answered = rw (read-taken (packetOf v) z) refl;
+      values = values-taken (packetOf v) z ∙ values v k;
+    }

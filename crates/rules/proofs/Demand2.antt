@@ -1,0 +1,218 @@
+-- The sender's sections are a whole run, offered one by one; the row theory says what is due at each of them.
+use Prim.Native.Nat.{ℕ, zero, suc, _+_, _*_, _-_, _≤_, _<_}
+use native.Mathlib.Omega.{arith}
+use native.Mathlib.Numerals.{add-one}
+use mathlib.Core.Path.{_≡_, refl, ap, ap₂, sym, _∙_}
+use mathlib.Core.Bool.{Bool, true, false}
+use mathlib.Core.List.{List, [], _∷_, _++_, map}
+use lib.ListN.{length, take, length-take}
+use lib.Dec.{eqb, ltb}
+use borrow.Author.Tests.{eq-eqb, le-ltb}
+use Rattle.wire.specs.Bytes.{numberAt, over}
+use Rattle.wire.specs.Choice.{both, either, first, firstOf}
+use Rattle.wire.proofs.Choice.{never}
+use Rattle.rules.specs.declared.Settings.{Settings}
+use Rattle.rules.specs.declared.Key.{Key}
+use Rattle.rules.specs.declared.Address.{Address}
+use Rattle.rules.specs.declared.Answer.the-variants.{Delivered, Stored}
+use Rattle.rules.specs.Address.{agree, sameAddress}
+use Rattle.rules.specs.Cut.{offers}
+use Rattle.rules.specs.Demand2.{answerAt, Arrives, RoundTrip}
+use Rattle.rules.specs.Row.{after, elsewhere, Event, fresh, Held, joined, next, Piece, Receivable, section}
+use Rattle.rules.specs.Section.{header, sealed, sectionLength, sectionOf}
+use Rattle.rules.specs.Send.{piece, sectionAt, sectionCount, sections, sectionsTo, sentOf, written}
+use Rattle.rules.specs.Step.{bar, barLines, finish, keyOf, Outcome, ours, overLimit, payloadScrambled, room, stepOf}
+use Rattle.rules.proofs.Cut.{Framed, offers-sections}
+use Rattle.rules.proofs.Due.{Due, refused, finished, stored, due, due-holds, Holds}
+use Rattle.rules.proofs.Lists.{map-more}
+use Rattle.rules.proofs.Runs.{EndsIn, ends-size, only}
+use Rattle.rules.proofs.Send.{Accepted, count-some, Given, given, given-bytes, joined-to, piece-small, pieces-all}
+use Rattle.rules.proofs.Send.{section-size, section-written, sections-at, sections-length, sections-take}
+
+-- ---- each section is receivable
+either-right : (t : Bool) → either t true ≡ true
+unfolding either
+either-right true = refl
+either-right false = refl
+
+agree-self : (k range x : ℕ) → agree k range x x ≡ true
+unfolding agree
+agree-self k range x = rw (eq-eqb x x refl) (either-right (ltb range k))
+
+-- an address is the same as itself in any range
+same-self : (range : ℕ) (a : Address) → sameAddress range a a ≡ true
+unfolding sameAddress both
+same-self range a =
+    rw (
+      agree-self 1 range (a .mac6),
+      agree-self 2 range (a .mac5),
+      agree-self 3 range (a .mac4),
+      agree-self 4 range (a .mac3),
+      agree-self 5 range (a .mac2),
+      agree-self 6 range (a .mac1),
+    )
+
+after-more : (c : Settings) (h : Held) (r : List Event) (e : Event) → after c h (r ++ (e ∷ [])) ≡ next c (after c h r) e
+unfolding after
+after-more c h [] e = refl
+after-more c h (x ∷ r) e = after-more c (next c h x) r e
+
+started : (c : Settings) (b : List ℕ) → Holds c b [] (fresh b)
+started c b = record { size = refl; track = λ κ xs e some partial. omega (arith, ends-size (e .there)) }
+
+module _ (c : Settings) (flag : Bool) (n : ℕ) (u out : List ℕ) (a : Accepted c flag n u out) where
+  abbrev count : ℕ
+  count = sectionCount n u
+
+  abbrev to : ℕ → List (List ℕ)
+  to k = sectionsTo c flag n u k
+
+  abbrev at : ℕ → List ℕ
+  at i = sectionAt c flag n u i
+
+  -- what the sections agree on
+  abbrev key : Key
+  key = record { last = count - 1; flag = flag }
+
+  receivable : (i : ℕ) → i < count → Receivable c (at i)
+  unfolding sectionAt ours bar barLines overLimit payloadScrambled firstOf first
+  receivable i h =
+      let w = section-written c flag n u (a .some) (a .most) i h in
+      let last : count - 1 + 1 ≤ c .limit = omega (arith, a .limit) in
+      record {
+        sound = w .sound;
+        address = rw (w .addressed) (same-self (c .range) (c .address));
+        free = rw (w .clear, w .ending, le-ltb (c .limit) (count - 1 + 1) last);
+      }
+
+  agreed : (i : ℕ) → i < count → Piece c key i (at i)
+  unfolding sectionAt keyOf
+  agreed i h =
+      let w = section-written c flag n u (a .some) (a .most) i h in
+      record { receivable = receivable i h; numbered = w .numbered; agrees = rw (w .ending, w .flagged) }
+
+  framed : (i : ℕ) → i < count → Framed (at i)
+  unfolding sectionAt sectionOf sealed header sectionLength numberAt
+  framed i h =
+      let size = section-size (c .address) flag i (count - 1) (piece n u i) in
+      let most : length (piece n u i) ≤ 4080 = omega (arith, piece-small n u i, a .most) in
+      record { head = omega arith; whole = omega arith }
+
+  -- ---- the run, given to a fresh receiver
+  module _ (b : List ℕ) (fits : length u ≤ room b) where
+    abbrev row : ℕ → List Event
+    row k = map section (to k)
+
+    abbrev held : ℕ → Held
+    held k = after c (fresh b) (row k)
+
+    -- the first k sections are a run
+    run-to : (k : ℕ) → k ≤ count → EndsIn c b (row k) key (to k)
+    run-to k h =
+        record {
+          run =
+              record {
+                each = λ i l.
+                    let m : i < k = omega (arith, sections-length c flag n u k) in
+                    rw (sections-at c flag n u k i m) (agreed i (omega arith));
+                fits = rw (joined-to c flag n u (a .some) (a .most) k h, length-take) (omega arith);
+              };
+          there = record { front = []; split = refl };
+        }
+
+    kept : (i : ℕ) → i < count → elsewhere c (section (at i)) ≡ false
+    unfolding elsewhere both
+    kept i h = let r = receivable i h in rw (r .sound, r .address)
+
+    -- what is due at section k, by what is held before it
+    due-at : (k : ℕ) → k < count → Holds c b (row k) (held k)
+        → Due c b (row k) (held k .buffer) (at k) (stepOf c (held k .state) (at k) (held k .buffer))
+    due-at k h i = due c b (row k) (held k) i (at k) (a .settings) (kept k h)
+
+    holds-to : (k : ℕ) → k ≤ count → Holds c b (row k) (held k)
+    unfolding sectionsTo next after
+    holds-to zero h = started c b
+    holds-to (suc k) h =
+        let i : Holds c b (row k) (held k) = holds-to k (omega arith) in
+        rw (map-more section (to k) (at k), after-more c (fresh b) (row k) (section (at k)))
+        (due-holds c b (i .size) (due-at k (omega arith) i))
+
+    -- the outcome at section k
+    pub record Outcomes (k : ℕ) (o : Outcome) : Type 0 where
+      pub stored : k + 1 < count → o .step .answer ≡ Stored
+      pub delivered : k + 1 ≡ count → o .step .answer ≡ Delivered (length u)
+      pub unit : k + 1 ≡ count → take (length u) (o .buffer) ≡ u
+
+    run-next : (k : ℕ) → k < count → EndsIn c b (row k ++ (section (at k) ∷ [])) key (to (suc k))
+    unfolding sectionsTo
+    run-next k h = rw (← map-more section (to k) (at k)) (run-to (suc k) h)
+
+    some-to : (k : ℕ) → 0 < length (to (suc k))
+    some-to k = omega (arith, sections-length c flag n u (suc k))
+
+    outcomes : (k : ℕ) → k < count → {now : List ℕ} {o : Outcome} → Due c b (row k) now (at k) o → Outcomes k o
+    unfolding finish
+    outcomes k h (refused never-ends) = absurd (never-ends key (to (suc k)) (run-next k h) (some-to k))
+    outcomes k h (finished {f = f} {after = after} size g last) =
+        let p : Piece c key k (at k) = agreed k h in
+        let is : suc k ≡ count = omega (arith, p .numbered, ap (λ (κ : Key). κ .last) (p .agrees)) in
+        let same = only c b (g .run) (run-next k h) (omega (arith, g .count)) (some-to k) in
+        let all : joined (g .sections) ≡ u =
+        ap joined (same .sections) ∙ joined-to c flag n u (a .some) (a .most) (suc k) h
+        ∙ ap (λ (m : ℕ). take (m * n) u) is ∙ pieces-all n u (a .some) in
+        let size : f ≡ length u = sym (g .filled) ∙ ap length all in
+        record {
+          stored = λ l. absurd (omega arith);
+          delivered = λ l. ap Delivered size;
+          unit = λ l. ap (λ (m : ℕ). take m after) (sym size) ∙ g .bytes ∙ all;
+        }
+    outcomes k h (stored size g part) =
+        let p : Piece c key k (at k) = agreed k h in
+        let more : k < count - 1 = omega (arith, p .numbered, ap (λ (κ : Key). κ .last) (p .agrees)) in
+        record { stored = λ l. refl; delivered = λ l. absurd (omega arith); unit = λ l. absurd (omega arith) }
+
+    outcome-at : (k : ℕ) → k < count → Outcomes k (stepOf c (held k .state) (at k) (held k .buffer))
+    outcome-at k h = outcomes k h (due-at k h (holds-to k (omega arith)))
+
+    answer-at : (i : ℕ) → i < count → answerAt c b (to count) i ≡ stepOf c (held i .state) (at i) (held i .buffer) .step .answer
+    unfolding answerAt
+    answer-at i h =
+        ap₂ (λ (before : List (List ℕ)) (s : List ℕ).
+        let held : Held = after c (fresh b) (map section before) in
+        stepOf c (held .state) s (held .buffer) .step .answer)
+        (sections-take c flag n u count i (omega arith)) (sections-at c flag n u count i h)
+
+    unit-at : (k : ℕ) → k + 1 ≡ count → take (length u) (held (suc k) .buffer) ≡ u
+    unfolding sectionsTo next
+    unit-at k h =
+        rw (map-more section (to k) (at k), after-more c (fresh b) (row k) (section (at k)))
+        (outcome-at k (omega arith) .unit h)
+
+    arrives : Arrives c b (to count) u
+    arrives =
+        let l = sections-length c flag n u count in
+        record {
+          receivable = λ i h. rw (sections-at c flag n u count i (omega arith)) (receivable i (omega arith));
+          stored = λ i h. answer-at i (omega arith) ∙ outcome-at i (omega arith) .stored (omega arith);
+          delivered = λ i h. answer-at i (omega arith) ∙ outcome-at i (omega arith) .delivered (omega arith);
+          unit = last (count - 1) (omega (arith, count-some n u));
+        }
+      where
+        last : (k : ℕ) → k + 1 ≡ count → take (length u) (held count .buffer) ≡ u
+        last k h = rw (← h, add-one k) (unit-at k h)
+
+pub round-trip : RoundTrip
+unfolding sections
+round-trip c flag n u out m p =
+    let g : Given c flag n u out m = given c flag n u out m p in
+    let a = g .accepted in
+    let xs : List (List ℕ) = sections c flag n u in
+    let cut : offers (take m (sentOf c flag n u out .output)) ≡ xs =
+    ap offers (given-bytes c flag n u out m g)
+    ∙ offers-sections xs (λ i h.
+    let k : i < sectionCount n u = omega (arith, sections-length c flag n u (sectionCount n u)) in
+    rw (sections-at c flag n u (sectionCount n u) i k) (framed c flag n u out a i k)) in
+    record {
+      counted = rw cut (sections-length c flag n u (sectionCount n u));
+      arrives = λ b room. rw cut (arrives c flag n u out a b room);
+    }

@@ -1,0 +1,143 @@
+// The sender of document 01: cuts a unit into sections, which stand back to back from the start of the output, or refuses it.
+use rules::Address;
+use rules::Sending;
+use rules::Settings;
+use wire::both;
+use wire::copy;
+use wire::first;
+ghost use mathlib.Core.Bool.{Bool};
+ghost use mathlib.Core.List.{flatten};
+ghost use mathlib.Core.Path.{_≡_};
+ghost use Prim.Native.Nat.{_+_, _≤_};
+ghost use lib.Dec.{leb};
+ghost use lib.ListN.{length};
+ghost use Rattle.wire.specs.Bytes.{Reads};
+ghost use Rattle.wire.specs.Choice.{both, firstOf};
+ghost use Rattle.rules.specs.Section.{sectionOf};
+ghost use Rattle.rules.specs.Send.{sendingNumber, sendingLength, sectionCount, sections, sendLines, sentOf, defaultPiece, Sends};
+ghost use Rattle.sender.specs.Puts.{Puts};
+
+// The paper's number of an answer.
+pub fn number_of(sending: Sending) -> u8
+    ensures { λ r. ⌜ r ≡ sendingNumber sending ⌝ }
+{
+    match sending {
+        Sending::Sent(_) => 0,
+        Sending::Unsent(number) => number,
+    }
+}
+
+// The total length that an answer gives.
+pub fn length_of(sending: Sending) -> usize
+    ensures { λ r. ⌜ r ≡ sendingLength sending ⌝ }
+{
+    match sending {
+        Sending::Sent(length) => length,
+        Sending::Unsent(_) => 0,
+    }
+}
+
+fn size_good(size: usize) -> bool
+    ensures { λ r. ⌜ r ≡ both (leb 1 size) (leb size 4080) ⌝ }
+{
+    both(1 <= size, size <= 4080)
+}
+
+// How many sections a unit needs that 50 and 51 leave.
+fn section_count(size: usize, unit: &[u8]) -> usize
+    requires { ⌜ (1 ≤ size) × (size ≤ 4080) × (length (now unit) ≤ 65535) ⌝ }
+    ensures { λ r. ⌜ Reads (sectionCount size (now (unit .entry))) 65537 r ⌝ }
+{
+    let count = (unit.len() + (size - 1)) / size;
+    if count <= 1 {
+        return 1;
+    }
+    count
+}
+
+// The first of 10 and 50 to 53 that applies, else 0. Sections are counted only where 50 and 51 leave numbers that fit.
+fn refusal(settings: Settings, size: usize, unit: &[u8], out: &[u8]) -> u8
+    ensures { λ r. ⌜ ((flag : Bool) → r ≡ firstOf (sendLines settings flag size (now (unit .entry)) (now (out .entry)))) ⌝ }
+{
+    if !section::settings::good_settings(settings) {
+        return 10;
+    }
+    if !size_good(size) {
+        return 50;
+    }
+    if 65535 < unit.len() {
+        return 51;
+    }
+    let count = section_count(size, unit);
+    let short = first(out.len() < unit.len() + 16 * count, 53, 0);
+    first(settings.limit < count, 52, short)
+}
+
+// Lays bytes over the output from `at` on, and gives where they end.
+fn put(s: &[u8], at: usize, out: &mut [u8]) -> usize
+    requires { ⌜ at + length (now s) ≤ length (now out) ⌝ }
+    ensures { λ r. ⌜ Puts (now (s .entry)) at (now (out .entry)) r (now (out .exit)) ⌝ }
+{
+    copy(s, &mut out[at..]);
+    at + s.len()
+}
+
+// Writes one section at `at`, header, piece and CRC_32, and gives where it ends.
+fn put_section(
+    a: Address,
+    flag: bool,
+    number: u8,
+    last: u8,
+    piece: &[u8],
+    at: usize,
+    out: &mut [u8],
+) -> usize
+    requires { ⌜ (length (now piece) ≤ 4080) × (at + (length (now piece) + 16) ≤ length (now out)) ⌝ }
+    ensures { λ r. ⌜ Puts (sectionOf a flag number last (now (piece .entry))) at (now (out .entry)) r (now (out .exit)) ⌝ }
+{
+    let header = section::header::header(a, flag, number, last, (piece.len() + 13) as u16);
+    let body = put(&header, at, out);
+    let end = put(piece, body, out);
+    let sum = wire::u32_bytes(crc::crc_32(&out[at..end]));
+    put(&sum, end, out)
+}
+
+// Writes the sections of a unit that is not refused.
+fn put_sections(settings: Settings, flag: bool, size: usize, unit: &[u8], out: &mut [u8]) -> usize
+    requires { ⌜ firstOf (sendLines settings flag size (now unit) (now out)) ≡ 0 ⌝ }
+    ensures { λ r. ⌜ Puts (flatten (sections settings flag size (now (unit .entry)))) 0 (now (out .entry)) r (now (out .exit)) ⌝ }
+{
+    let count = section_count(size, unit);
+    let last = (count - 1) as u8;
+    let mut rest = unit;
+    let mut at = 0;
+    let mut i = 0;
+    while i < count {
+        let address = settings.address;
+        let n = wire::smaller(size, rest.len());
+        at = put_section(address, flag, i as u8, last, &rest[..n], at, out);
+        rest = &rest[n..];
+        i += 1;
+    }
+    at
+}
+
+// Sections of the unit from the start of the output, or a refusal that writes nothing.
+pub fn send(settings: Settings, flag: bool, size: usize, unit: &[u8], out: &mut [u8]) -> Sending
+    ensures { λ r. ⌜ Sends (sentOf settings flag size (now (unit .entry)) (now (out .entry))) r (now (out .exit)) ⌝ }
+{
+    let number = refusal(settings, size, unit, out);
+    if number != 0 {
+        return Sending::Unsent(number);
+    }
+    Sending::Sent(put_sections(settings, flag, size, unit, out))
+}
+
+// The piece size where a caller gives none.
+const DEFAULT_PIECE: usize = 4080;
+
+pub fn send_by_default(settings: Settings, flag: bool, unit: &[u8], out: &mut [u8]) -> Sending
+    ensures { λ r. ⌜ Sends (sentOf settings flag defaultPiece (now (unit .entry)) (now (out .entry))) r (now (out .exit)) ⌝ }
+{
+    send(settings, flag, DEFAULT_PIECE, unit, out)
+}
