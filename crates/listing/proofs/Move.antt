@@ -15,7 +15,8 @@ use Rattle.listing.specs.Walk.{Fine, Kept}
 
 -- one byte more is moved
 pub move-step : (b : List ℕ) (f i : ℕ) → f + i < length b
-    → set (take i (drop f b) ++ drop i b) i (getD (take i (drop f b) ++ drop i b) (f + i) 0) ≡ take (i + 1) (drop f b) ++ drop (i + 1) b
+    → set (take i (drop f b) ++ drop i b) i (getD (take i (drop f b) ++ drop i b) (f + i) 0)
+    ≡ take (i + 1) (drop f b) ++ drop (i + 1) b
 move-step b f i h =
     let s : List ℕ = drop f b in
     let n : length s ≡ length b - f = length-drop f b in
@@ -31,8 +32,20 @@ move-step b f i h =
     ap (set (take i s ++ drop i b) i) e ∙ over-step s b i (omega arith) (omega arith)
 
 -- the bytes at hand moved to the start
-pub kept-move : (w : Walk) (b d : List ℕ) → Fine w (length b) → d ≡ take (w .end - w .start) (drop (w .start) b) ++ drop (w .end - w .start) b
-    → Kept w b (record { start = 0; end = w .end - w .start; offset = w .offset; out = w .out; over = w .over; done = w .done; state = w .state }) d
+abbrev moved : Walk → Walk
+moved w =
+    record {
+      start = 0;
+      end = w .end - w .start;
+      offset = w .offset;
+      out = w .out;
+      over = w .over;
+      done = w .done;
+      state = w .state;
+    }
+
+pub kept-move : (w : Walk) (b d : List ℕ) → Fine w (length b)
+    → d ≡ take (w .end - w .start) (drop (w .start) b) ++ drop (w .end - w .start) b → Kept w b (moved w) d
 kept-move w b d f q =
     let n : ℕ = w .end - w .start in
     let z : n - 0 ≡ n = omega arith in
@@ -62,9 +75,20 @@ hand-read b ys s e h k =
     ∙ sym (front b (drop e b) s e h k)
     ∙ ap (λ (l : List ℕ). take (e - s) (drop s l)) (take-append-drop e b)
 
--- n bytes more read behind the bytes at hand
-pub kept-read : (w : Walk) (b ys : List ℕ) (n : ℕ) → Fine w (length b) → w .over ≡ false
-    → Kept w b (record { start = w .start; end = w .end + n; offset = w .offset; out = w .out; over = eqb n 0; done = w .done; state = w .state }) (take (w .end) b ++ ys)
+-- n bytes more behind the bytes at hand; none, where the input has ended
+abbrev longer : Walk → ℕ → Walk
+longer w n =
+    record {
+      start = w .start;
+      end = w .end + n;
+      offset = w .offset;
+      out = w .out;
+      over = eqb n 0;
+      done = w .done;
+      state = w .state;
+    }
+
+pub kept-read : (w : Walk) (b ys : List ℕ) (n : ℕ) → Fine w (length b) → w .over ≡ false → Kept w b (longer w n) (take (w .end) b ++ ys)
 kept-read w b ys n f o =
     let s : ℕ = w .start in
     let e : ℕ = w .end in
@@ -85,5 +109,5 @@ kept-read w b ys n f o =
 
 pub read-within : (b : List ℕ) (e n : ℕ) → e ≤ length b → n ≤ length (take (length b - e) (drop e b)) → e + n ≤ length b
 read-within b e n h k =
-    let l : length (take (length b - e) (drop e b)) ≡ length b - e = length-take-le (length b - e) (drop e b) (omega (arith, length-drop e b)) in
-    omega (arith, k, l)
+    let p : List ℕ = drop e b in
+    omega (arith, k, length-take-le (length b - e) p (omega (arith, length-drop e b)), length-drop e b)

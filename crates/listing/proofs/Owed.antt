@@ -13,9 +13,10 @@ use Rattle.wire.specs.Choice.{pick, either}
 use Rattle.wire.proofs.Choice.{either-false}
 use Rattle.rules.specs.declared.Settings.{Settings}
 use Rattle.rules.specs.declared.Step.{Step}
+use Rattle.rules.specs.declared.State.{State}
 use Rattle.rules.specs.declared.State.the-variants.{Idle}
 use Rattle.rules.specs.Cut.{offerLength, offersWithin, offers}
-use Rattle.rules.specs.Step.{Does, stepOf}
+use Rattle.rules.specs.Step.{Outcome, Does, stepOf}
 use Rattle.rules.proofs.Offer.{offer-within, offer-some, offer-window, offers-more}
 use Rattle.listing.specs.declared.Walk.{Walk}
 use Rattle.listing.specs.Text.{line, Put}
@@ -29,10 +30,22 @@ stop-within b s e n h k q =
     let l : length (take (e - s) (drop s b)) ≡ e - s = length-take-le (e - s) (drop s b) (omega (arith, length-drop s b)) in
     omega (arith, q, l, offer-within (take (e - s) (drop s b)))
 
+abbrev onward : Walk → ℕ → ℕ → ℕ → State → Walk
+onward w n offset out state =
+    record {
+      start = w .start + n;
+      end = w .end;
+      offset = offset;
+      out = out;
+      over = w .over;
+      done = false;
+      state = state;
+    }
+
 pub served : {o o′ u′ : List ℕ} {at z n : ℕ} {s : Step} (c : Settings) (w : Walk) (b u : List ℕ) → n ≡ offerLength (atHand w b)
     → Does (stepOf c (w .state) (take (w .start + n - w .start) (drop (w .start) b)) u) s u′
     → Put o (w .out) (line (w .offset) (s .answer)) at o′ → z ≡ (w .offset + n) % 2 ^ 64
-    → Served c w b o u (record { start = w .start + n; end = w .end; offset = z; out = at; over = w .over; done = false; state = s .state }) o′ u′
+    → Served c w b o u (onward w n z at (s .state)) o′ u′
 served {n = n} c w b u e d k x =
     let y : w .start + n - w .start ≡ n = omega arith in
     let f = rw (y, e) at d in
@@ -49,7 +62,8 @@ served {n = n} c w b u e d k x =
 
 -- ---- the recording's next offer
 -- the bytes at hand are the first n of them and those behind
-hand-split : (b : List ℕ) (s e n : ℕ) → s + n ≤ e → take n (drop s b) ++ take (e - (s + n)) (drop (s + n) b) ≡ take (e - s) (drop s b)
+hand-split : (b : List ℕ) (s e n : ℕ) → s + n ≤ e
+    → take n (drop s b) ++ take (e - (s + n)) (drop (s + n) b) ≡ take (e - s) (drop s b)
 hand-split b s e n h =
     let m : n + (e - (s + n)) ≡ e - s = omega arith in
     ap (λ (l : List ℕ). take n (drop s b) ++ take (e - (s + n)) l) (sym (drop-drop n s b))
@@ -57,7 +71,8 @@ hand-split b s e n h =
     ∙ ap (λ (k : ℕ). take k (drop s b)) m
 
 front-before : (b rest : List ℕ) (s e n : ℕ) → s + n ≤ e → length (take n (drop s b)) ≡ n
-    → take (e - (s + n)) rest ≡ take (e - (s + n)) (drop (s + n) b) → take (e - s) (take n (drop s b) ++ rest) ≡ take (e - s) (drop s b)
+    → take (e - (s + n)) rest ≡ take (e - (s + n)) (drop (s + n) b)
+    → take (e - s) (take n (drop s b) ++ rest) ≡ take (e - s) (drop s b)
 front-before b rest s e n h l f =
     let p : List ℕ = take n (drop s b) in
     let m : e - s ≡ length p + (e - (s + n)) = omega arith in
@@ -66,11 +81,14 @@ front-before b rest s e n h l f =
     ∙ ap (λ (t : List ℕ). p ++ t) f
     ∙ hand-split b s e n h
 
-enough : (w : Walk) (b rest : List ℕ) → ready w ≡ true → Left w b rest → (4098 ≤ w .end - w .start) ⊎ (length rest ≤ w .end - w .start)
+abbrev Enough : ℕ → List ℕ → Type 0
+Enough n rest = (4098 ≤ n) ⊎ (length rest ≤ n)
+
+enough : (w : Walk) (b rest : List ℕ) → ready w ≡ true → Left w b rest → Enough (w .end - w .start) rest
 unfolding ready either
 enough w b rest h l = go (w .over) refl h
   where
-    go : (t : Bool) → w .over ≡ t → either t (leb 4098 (w .end - w .start)) ≡ true → (4098 ≤ w .end - w .start) ⊎ (length rest ≤ w .end - w .start)
+    go : (t : Bool) → w .over ≡ t → either t (leb 4098 (w .end - w .start)) ≡ true → Enough (w .end - w .start) rest
     go true e q = inr (l .all e)
     go false e q = inl (leb-true _ _ q)
 
@@ -84,8 +102,8 @@ nothing : (w : Walk) (o : List ℕ) → full w (length o) ≡ false → written 
 unfolding written pick
 nothing w o h = rw h
 
-pub turned-kept : {b b′ o u rest : List ℕ} {r : Walk} (c : Settings) (w : Walk) → full w (length o) ≡ false → Kept w b r b′ → Left r b′ rest
-    → Turned c w b o u r o u rest
+pub turned-kept : {b b′ o u rest : List ℕ} {r : Walk} (c : Settings) (w : Walk) → full w (length o) ≡ false → Kept w b r b′
+    → Left r b′ rest → Turned c w b o u r o u rest
 unfolding owed
 turned-kept {o = o} {rest = rest} c w h k l =
     record { rest = rest; left = k .left rest l; same = rw (nothing w o h, k .out, k .offset, k .state) }
@@ -95,7 +113,14 @@ left-stays w b rest s l =
     record { front = rw (s .start, s .end) at (l .front); all = λ t. rw (s .start, s .end) at (l .all (s .over ∙ t)) }
 
 pub kept-stays : {r : Walk} (w : Walk) (b : List ℕ) → Stays w r → r .out ≡ w .out → Kept w b r b
-kept-stays w b s e = record { left = λ rest l. left-stays w b rest s l; over = λ t. rw (s .start, s .end); offset = s .offset; out = e; state = s .state }
+kept-stays w b s e =
+    record {
+      left = λ rest l. left-stays w b rest s l;
+      over = λ t. rw (s .start, s .end);
+      offset = s .offset;
+      out = e;
+      state = s .state;
+    }
 
 pub turned-flush : {b o u rest : List ℕ} {r : Walk} (c : Settings) (w : Walk) → full w (length o) ≡ true → Stays w r → r .out ≡ 0
     → Left r b rest → Turned c w b o u r o u rest
@@ -103,7 +128,9 @@ unfolding owed written pick
 turned-flush {b = b} {rest = rest} c w h s e l =
     record { rest = rest; left = left-stays w b rest s l; same = rw (h, e, s .offset, s .state) }
 
-module _ {b o o′ u u′ rest : List ℕ} {r : Walk} (c : Settings) (w : Walk) (fine : Fine w (length b)) (s : Served c w b o u r o′ u′) (l : Left r b rest) where
+module _
+    {b o o′ u u′ rest : List ℕ} {r : Walk} (c : Settings) (w : Walk) (fine : Fine w (length b)) (s : Served c w b o u r o′ u′)
+    (l : Left r b rest) where
   abbrev n : ℕ
   n = offerLength (atHand w b)
 
@@ -126,8 +153,8 @@ module _ {b o o′ u u′ rest : List ℕ} {r : Walk} (c : Settings) (w : Walk) 
 
   some : (w .start ≡ w .end → ⊥) → 0 < n
   some apart =
-      offer-some (atHand w b)
-      (omega (arith, apart, fine .order, length-take-le (w .end - w .start) (drop (w .start) b) (omega (arith, length-drop (w .start) b, fine .within))))
+      let h : w .end - w .start ≤ length (drop (w .start) b) = omega (arith, length-drop (w .start) b, fine .within) in
+      offer-some (atHand w b) (omega (arith, apart, fine .order, length-take-le (w .end - w .start) (drop (w .start) b) h))
 
   -- the offer is the recording's next
   next : ready w ≡ true → (w .start ≡ w .end → ⊥) → offers (p ++ rest) ≡ p ∷ offers rest
@@ -139,11 +166,13 @@ module _ {b o o′ u u′ rest : List ℕ} {r : Walk} (c : Settings) (w : Walk) 
   pub turned-serve : ready w ≡ true → (w .start ≡ w .end → ⊥) → full w (length o) ≡ false → Turned c w b o u r o′ u′ rest
   unfolding owed linesOf
   turned-serve h apart k =
+      let x : Outcome = outcomeOf c w b u in
+      let more : List ℕ = linesOf c ((w .offset + length p) % 2 ^ 64) (x .step .state) (x .buffer) (offers rest) in
       record {
         rest = p ++ rest;
         left = before;
         same = ap (λ (x : List (List ℕ)). take (w .out) o ++ linesOf c (w .offset) (w .state) u x) (next h apart)
-            ∙ sym (append-assoc (take (w .out) o) (line (w .offset) (outcomeOf c w b u .step .answer)) (linesOf c ((w .offset + length p) % 2 ^ 64) (outcomeOf c w b u .step .state) (outcomeOf c w b u .buffer) (offers rest)))
+            ∙ sym (append-assoc (take (w .out) o) (line (w .offset) (x .step .answer)) more)
             ∙ rw (nothing w o k, put-front (s .text), s .offset, s .state, s .unit, long);
       }
 

@@ -119,7 +119,7 @@ fn move_down(buffer: &mut [u8], from: usize, n: usize)
     }
 }
 
-// One read, of as much as there is room for: 0 at the end of the input, and where it cannot be read. (A read into no room is 0 too.)
+// One read, of as much as there is room for: 0 at the end of the input, where it cannot be read, and where there is no room.
 fn read(buffer: &mut [u8]) -> usize
     requires { ⌜ 0 < length (now buffer) ⌝ }
     ensures { λ r. ⌜ r ≤ length (now (buffer .entry)) ⌝ }

@@ -77,18 +77,20 @@ within-enough (suc j) (suc k) [] h i = refl
 within-enough zero k (x ∷ r) h i = absurd (omega arith)
 within-enough (suc j) zero (x ∷ r) h i = absurd (omega arith)
 within-enough (suc j) (suc k) (x ∷ r) h i =
-    let some : 0 < offerLength (x ∷ r) = offer-some (x ∷ r) (omega arith) in
-    let l = length-drop (offerLength (x ∷ r)) (x ∷ r) in
-    rw (within-more j (x ∷ r) (omega arith), within-more k (x ∷ r) (omega arith))
-    (ap (λ (o : List (List ℕ)). take (offerLength (x ∷ r)) (x ∷ r) ∷ o) (within-enough j k (drop (offerLength (x ∷ r)) (x ∷ r)) (omega arith) (omega arith)))
+    let s : List ℕ = x ∷ r in
+    let some : 0 < offerLength s = offer-some s (omega arith) in
+    let l = length-drop (offerLength s) s in
+    let e = within-enough j k (drop (offerLength s) s) (omega arith) (omega arith) in
+    rw (within-more j s (omega arith), within-more k s (omega arith)) (ap (λ (o : List (List ℕ)). take (offerLength s) s ∷ o) e)
 
 -- the first offer, and the offers of what is left behind it
 pub offers-more : (r : List ℕ) → 0 < length r → offers r ≡ take (offerLength r) r ∷ offers (drop (offerLength r) r)
 unfolding offers
 offers-more [] h = absurd (omega arith)
 offers-more (x ∷ r) h =
-    let some : 0 < offerLength (x ∷ r) = offer-some (x ∷ r) h in
-    let l = length-drop (offerLength (x ∷ r)) (x ∷ r) in
-    let rest : List ℕ = drop (offerLength (x ∷ r)) (x ∷ r) in
-    within-more (length r) (x ∷ r) h
-    ∙ ap (λ (o : List (List ℕ)). take (offerLength (x ∷ r)) (x ∷ r) ∷ o) (within-enough (length r) (length rest) rest (omega arith) (omega arith))
+    let s : List ℕ = x ∷ r in
+    let some : 0 < offerLength s = offer-some s h in
+    let l = length-drop (offerLength s) s in
+    let rest : List ℕ = drop (offerLength s) s in
+    let e = within-enough (length r) (length rest) rest (omega arith) (omega arith) in
+    within-more (length r) s h ∙ ap (λ (o : List (List ℕ)). take (offerLength s) s ∷ o) e

@@ -33,7 +33,7 @@ put-decimal-digit-requires : (t : ℕ) → put-decimal-lts.Need-digit-requires (
   put-decimal-below t,
   put-decimal.Post,
 ) (put-decimal-at t) put-decimal.Post
-put-decimal-digit-requires t c κs = c .before .if1 .taken
+put-decimal-digit-requires t c κs = omega (arith, c .before .if1 .taken)
 
 put-decimal-put-byte-requires : (t : ℕ) → put-decimal-lts.Need-put-byte-requires (
   digit-reads.Asked,
@@ -44,7 +44,9 @@ put-decimal-put-byte-requires : (t : ℕ) → put-decimal-lts.Need-put-byte-requ
   put-decimal.Post,
 ) (put-decimal-at t) put-decimal.Post
 put-decimal-put-byte-requires t c κs =
-    omega (arith, c .before .before .before .before .pre .1, ap length (decimal-last _ (c .before .before .if1 .taken)))
+    let last = c .before .before in
+    let start = last .before .before in
+    omega (arith, start .pre .1, ap length (decimal-last (start .args .n) (omega (arith, last .if1 .taken))))
 
 put-decimal-same-length : (t : ℕ) → put-decimal-lts.Need-same-length (
   digit-reads.Asked,
@@ -64,7 +66,9 @@ put-decimal-returns : (t : ℕ) → put-decimal-lts.Need-returns (
   put-decimal-below t,
   put-decimal.Post,
 ) (put-decimal-at t) put-decimal.Post
-put-decimal-returns t c = put-last (c .before .before .before .before .before .if1 .taken) (c .before .before .before .digit .ensures) (c .before .before .put-byte .ensures)
+put-decimal-returns t c =
+    let byte = c .before .before in
+    put-last (omega (arith, byte .before .before .before .if1 .taken)) (byte .before .digit .ensures) (byte .put-byte .ensures)
 
 put-decimal-put-decimal-requires : (t : ℕ) → put-decimal-lts.Need-put-decimal-requires (
   digit-reads.Asked,
@@ -99,9 +103,11 @@ put-decimal-put-byte-requires-2 : (t : ℕ) → put-decimal-lts.Need-put-byte-re
   put-decimal.Post,
 ) (put-decimal-at t) put-decimal.Post
 put-decimal-put-byte-requires-2 t c κs =
-    let start = c .before .before .before .before .before .before .before .before in
-    let p = c .before .before .before .before .put-decimal .ensures in
-    omega (arith, start .pre .1, p .end, put-length p, decimal-longer _ (start .fits .n .fits) (c .before .before .before .before .before .before .if1 .left))
+    let rest = c .before .before .before .before in
+    let left = rest .before .before in
+    let start = left .before .before in
+    let p = rest .put-decimal .ensures in
+    omega (arith, start .pre .1, p .end, put-length p, decimal-longer _ (start .fits .n .fits) (left .if1 .left))
 
 put-decimal-same-length-2 : (t : ℕ) → put-decimal-lts.Need-same-length-2 (
   digit-reads.Asked,
@@ -111,7 +117,9 @@ put-decimal-same-length-2 : (t : ℕ) → put-decimal-lts.Need-same-length-2 (
   put-decimal-below t,
   put-decimal.Post,
 ) (put-decimal-at t) put-decimal.Post
-put-decimal-same-length-2 t c = put-length (c .before .before .put-byte2 .ensures) ∙ put-length (c .before .before .before .before .before .before .before .put-decimal .ensures)
+put-decimal-same-length-2 t c =
+    let byte = c .before .before in
+    put-length (byte .put-byte2 .ensures) ∙ put-length (byte .before .before .before .before .before .put-decimal .ensures)
 
 put-decimal-returns-2 : (t : ℕ) → put-decimal-lts.Need-returns-2 (
   digit-reads.Asked,
@@ -122,7 +130,12 @@ put-decimal-returns-2 : (t : ℕ) → put-decimal-lts.Need-returns-2 (
   put-decimal.Post,
 ) (put-decimal-at t) put-decimal.Post
 put-decimal-returns-2 t c =
-    put-more (c .before .before .before .before .before .before .before .before .before .before .before .fits .n .fits) (c .before .before .before .before .before .before .before .before .before .if1 .left) (c .before .before .before .digit2 .ensures) (c .before .before .before .before .before .before .before .put-decimal .ensures) (c .before .before .put-byte2 .ensures)
+    let byte = c .before .before in
+    let rest = byte .before .before .before .before .before in
+    let left = rest .before .before in
+    put-more (left .before .before .fits .n .fits) (left .if1 .left) (byte .before .digit2 .ensures)
+    (rest .put-decimal .ensures)
+    (byte .put-byte2 .ensures)
 
 pub +put-decimal-spec : {M : Type 1} → statement M
 +put-decimal-spec = close μ-put-decimal λ t. put-decimal-lts.spec (

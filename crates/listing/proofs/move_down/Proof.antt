@@ -1,4 +1,4 @@
--- Byte i is read before it is written, for the move is downward; so the first i bytes are the moved ones, and the rest are as they were.
+-- The move is downward, so a byte is read before it is written: the first i bytes are moved, the rest are as they were.
 use Prim.Native.Nat.{ℕ, _+_, _-_, _≤_}
 use native.Mathlib.Omega.{arith}
 use mathlib.Core.Path.{_≡_, refl, ap, _∙_}
@@ -10,7 +10,8 @@ use Rattle.listing.proofs.move_down.Statement.{statement}
 use Rattle.listing.proofs.move_down.Tie as tie
 
 abbrev Inv-loop : tie.InvT-loop
-Inv-loop buffer₀ from n i₀ buffer i = (i ≤ n) × (length buffer ≡ length buffer₀) × (buffer ≡ take i (drop from buffer₀) ++ drop i buffer₀)
+Inv-loop buffer₀ from n i₀ buffer i =
+    (i ≤ n) × (length buffer ≡ length buffer₀) × (buffer ≡ take i (drop from buffer₀) ++ drop i buffer₀)
 
 abbrev μ-loop : tie.MeasureT-loop
 μ-loop buffer₀ from n i₀ buffer i = n - i
@@ -35,12 +36,13 @@ loop-less c = omega arith
 
 loop-again : tie.Need-loop-again Inv-loop μ-loop
 loop-again c =
-    let i : ℕ = c .before .before .loop .i in
-    let f : ℕ = c .before .before .before .args .from in
-    let d : List ℕ = now (c .before .before .before .args .buffer) in (
+    let at = c .before .before in
+    let i : ℕ = at .loop .i in
+    let f : ℕ = at .before .args .from in
+    let d : List ℕ = now (at .before .args .buffer) in (
       omega arith,
-      simp length-set (c .before .before .loop .inv .1),
-      ap (λ (l : List ℕ). set l i (getD l (f + i) 0)) (c .before .before .loop .inv .2) ∙ move-step d f i (omega (arith, c .before .before .before .pre)),
+      simp length-set (at .loop .inv .1),
+      ap (λ (l : List ℕ). set l i (getD l (f + i) 0)) (at .loop .inv .2) ∙ move-step d f i (omega (arith, at .before .pre)),
     )
 
 same-length : tie.Need-same-length Inv-loop μ-loop

@@ -20,7 +20,9 @@ same-length c = search needs
 
 returns : tie.Need-returns
 unfolding field
-returns c = put-then (c .before .before .before .before .before .before .put-decimal .ensures) (c .before .before .put-byte .ensures)
+returns c =
+    let byte = c .before .before in
+    put-then (byte .before .before .before .before .put-decimal .ensures) (byte .put-byte .ensures)
 
 pub put-field-spec : {M : Type 1} → statement M
 put-field-spec = tie.close (tie.spec put-decimal-requires put-byte-requires same-length returns)

@@ -19,22 +19,33 @@ put-field-requires c κs = search needs
 
 put-field-requires-2 : tie.Need-put-field-requires-2
 put-field-requires-2 c κs =
-    let p = c .before .before .before .put-field .ensures in
-    omega (arith, c .before .before .before .before .before .before .before .before .pre, field-end _ _ p, put-length p)
+    let first = c .before .before .before in
+    let p = first .put-field .ensures in
+    omega (arith, first .before .before .before .before .before .pre, field-end _ _ p, put-length p)
 
 put-field-requires-3 : tie.Need-put-field-requires-3
 put-field-requires-3 c κs =
-    let p = c .before .before .before .before .before .before .before .put-field .ensures in
-    let q = c .before .before .before .put-field2 .ensures in
-    omega (arith, c .before .before .before .before .before .before .before .before .before .before .before .before .pre, field-end _ _ p, put-length p, field-end _ _ q, put-length q)
+    let second = c .before .before .before in
+    let first = second .before .before .before .before in
+    let p = first .put-field .ensures in
+    let q = second .put-field2 .ensures in
+    omega (arith, first .before .before .before .before .before .pre, field-end _ _ p, put-length p, field-end _ _ q, put-length q)
 
 same-length : tie.Need-same-length
 same-length c = search needs
 
 returns : tie.Need-returns
 returns c =
-    let start = c .before .before .before .before .before .before .before .before .before .before .before .before .before .before .before in
-    put-line (start .args .offset) (start .args .answer) (c .before .before .before .before .before .before .before .before .before .before .before .before .before .number-of .ensures) (c .before .before .before .before .before .before .before .before .before .before .before .before .length-of .ensures) (c .before .before .before .before .before .before .before .before .before .before .put-field .ensures) (c .before .before .before .before .before .before .put-field2 .ensures) (c .before .before .put-field3 .ensures)
+    let third = c .before .before in
+    let second = third .before .before .before .before in
+    let first = second .before .before .before .before in
+    let length = first .before .before in
+    let number = length .before in
+    let a = number .before .before .args in
+    put-line (a .offset) (a .answer) (number .number-of .ensures) (length .length-of .ensures)
+    (first .put-field .ensures)
+    (second .put-field2 .ensures)
+    (third .put-field3 .ensures)
 
 pub put-line-spec : {M : Type 1} → statement M
 put-line-spec =

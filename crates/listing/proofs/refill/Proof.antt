@@ -47,10 +47,12 @@ same-length-2 c = search needs
 returns-2 : tie.Need-returns-2
 returns-2 c =
     let start = c .before .before .before .before .before .before in
+    let w = start .args .walk in
+    let b = now (start .args .input) in
     let fine = start .pre .0 in
-    let more = read-within (now (start .args .input)) (start .args .walk .end) _ (fine .within) (c .before .before .read .ensures) in (
-      record { order = omega (arith, fine .order); within = more },
-      kept-read (start .args .walk) (now (start .args .input)) _ _ fine (start .pre .1),
+    let within = read-within b (w .end) _ (fine .within) (c .before .before .read .ensures) in (
+      record { order = omega (arith, fine .order); within = within },
+      kept-read w b _ _ fine (start .pre .1),
     )
 
 pub refill-spec : {M : Type 1} → statement M

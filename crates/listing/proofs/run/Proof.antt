@@ -8,7 +8,12 @@ use Rattle.listing.proofs.run.Statement.{statement}
 use Rattle.listing.proofs.run.Tie as tie
 
 abbrev Inv-loop : tie.InvT-loop
-Inv-loop settings input₀ output₀ unit₀ walk₀ turns₀ input output unit walk turns = Fine walk (length input) × Room walk (length output) × (length input ≡ length input₀) × (length output ≡ length output₀) × (length unit ≡ length unit₀)
+Inv-loop settings input₀ output₀ unit₀ walk₀ turns₀ input output unit walk turns =
+    Fine walk (length input)
+    × Room walk (length output)
+    × (length input ≡ length input₀)
+    × (length output ≡ length output₀)
+    × (length unit ≡ length unit₀)
 
 abbrev μ-loop : tie.MeasureT-loop
 μ-loop settings input₀ output₀ unit₀ walk₀ turns₀ input output unit walk turns = turns
@@ -27,7 +32,9 @@ loop-holds c =
     )
 
 turn-requires : tie.Need-turn-requires Inv-loop μ-loop
-turn-requires c κs = (c .before .before .before .before .before .loop .inv .0, c .before .before .before .before .before .loop .inv .1)
+turn-requires c κs =
+    let inv = c .before .before .before .before .before .loop .inv in
+    (inv .0, inv .1)
 
 sub-turns : tie.Need-sub-turns Inv-loop μ-loop
 sub-turns c = omega arith

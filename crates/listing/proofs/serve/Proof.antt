@@ -21,8 +21,9 @@ offer-length-requires c κs = search needs
 add-stop : tie.Need-add-stop
 add-stop c =
     let start = c .before .before .before .before .before in
+    let w = start .args .walk in
     let fine = start .pre .0 in
-    let stop = stop-within (now (start .args .input)) (start .args .walk .start) (start .args .walk .end) _ (fine .order) (fine .within) (c .offer-length .ensures) in
+    let stop = stop-within (now (start .args .input)) (w .start) (w .end) _ (fine .order) (fine .within) (c .offer-length .ensures) in
     record { fits = omega (arith, stop, fine .within, start .good .1 .1 .0 .0) }
 
 sub-receive : tie.Need-sub-receive
@@ -34,8 +35,9 @@ part-receive-start c = search needs
 part-receive-end : tie.Need-part-receive-end
 part-receive-end c =
     let start = c .before .before .before .before .before in
+    let w = start .args .walk in
     let fine = start .pre .0 in
-    let stop = stop-within (now (start .args .input)) (start .args .walk .start) (start .args .walk .end) _ (fine .order) (fine .within) (c .offer-length .ensures) in
+    let stop = stop-within (now (start .args .input)) (w .start) (w .end) _ (fine .order) (fine .within) (c .offer-length .ensures) in
     omega (arith, stop, fine .within)
 
 receive-requires : tie.Need-receive-requires
@@ -55,12 +57,17 @@ same-length-2 c = search needs
 
 returns : tie.Need-returns
 returns c =
-    let start = c .before .before .before .before .before .before .before .before .before .before .before .before .before .before .before in
+    let line = c .before .before .before in
+    let step = line .before .before .before .before in
+    let cut = step .before .before .before in
+    let start = cut .before .before .before .before .before in
+    let a = start .args in
     let fine = start .pre .0 in
-    let cut = c .before .before .before .before .before .before .before .before .before .before .offer-length .ensures in
-    let stop = stop-within (now (start .args .input)) (start .args .walk .start) (start .args .walk .end) _ (fine .order) (fine .within) cut in
-    let text = c .before .before .before .put-line .ensures in (
-      served (start .args .settings) (start .args .walk) (now (start .args .input)) (now (start .args .unit)) cut (c .before .before .before .before .before .before .before .receive .ensures) text (c .wrapping-add-u64 .ensures),
+    let n = cut .offer-length .ensures in
+    let stop = stop-within (now (a .input)) (a .walk .start) (a .walk .end) _ (fine .order) (fine .within) n in
+    let text = line .put-line .ensures in
+    let sum = c .wrapping-add-u64 .ensures in (
+      served (a .settings) (a .walk) (now (a .input)) (now (a .unit)) n (step .receive .ensures) text sum,
       (record { order = stop; within = fine .within }, omega (arith, text .end, text .room)),
     )
 

@@ -19,11 +19,13 @@ same-length c = search needs
 
 returns : tie.Need-returns
 returns c =
-    let start = c .before .before .before .before .before .before .before in
-    let is-full = was (c .before .before .before .full .ensures) (c .before .before .if1 .taken) in
-    let same = c .flush .ensures .0 in (
+    let at-full = c .before .before in
+    let start = at-full .before .before .before .before .before in
+    let is-full = was (at-full .before .full .ensures) (at-full .if1 .taken) in
+    let same = c .flush .ensures .0 in
+    let none = c .flush .ensures .1 in (
       fine-stays (start .args .walk) same (start .pre .0),
-      (omega (arith, c .flush .ensures .1), λ rest l. turned-flush (start .args .settings) (start .args .walk) is-full same (c .flush .ensures .1) l),
+      (omega (arith, none), λ rest l. turned-flush (start .args .settings) (start .args .walk) is-full same none l),
     )
 
 ready-requires : tie.Need-ready-requires
@@ -31,43 +33,48 @@ ready-requires c κs = search needs
 
 refill-requires : tie.Need-refill-requires
 refill-requires c κs =
-    (c .before .before .before .before .before .before .before .before .pre .0, unended _ (was (c .before .before .ready .ensures) (not-true _ (c .before .if2 .taken))))
+    let unready = c .before in
+    (unready .before .before .before .before .before .before .before .pre .0, unended _ (was (unready .before .ready .ensures) (not-true _ (unready .if2 .taken))))
 
 same-length-2 : tie.Need-same-length-2
 same-length-2 c = search needs
 
 returns-2 : tie.Need-returns-2
 returns-2 c =
-    let start = c .before .before .before .before .before .before .before .before .before .before .before in
-    let not-full = was (c .before .before .before .before .before .before .before .full .ensures) (c .before .before .before .before .before .before .if1 .left) in
-    let kept = c .before .before .refill .ensures .1 in (
-      c .before .before .refill .ensures .0,
+    let at-refill = c .before .before in
+    let roomy = at-refill .before .before .before .before in
+    let start = roomy .before .before .before .before .before in
+    let not-full = was (roomy .before .full .ensures) (roomy .if1 .left) in
+    let kept = at-refill .refill .ensures .1 in (
+      at-refill .refill .ensures .0,
       (omega (arith, kept .out, start .pre .1), λ rest l. turned-kept (start .args .settings) (start .args .walk) not-full kept l),
     )
 
 finish-requires : tie.Need-finish-requires
 finish-requires c κs =
-    (ended _ (was (c .before .before .before .ready .ensures) (not-false _ (c .before .before .if2 .left))) (c .if3 .taken), c .if3 .taken)
+    let at-ready = c .before .before in
+    (ended _ (was (at-ready .before .ready .ensures) (not-false _ (at-ready .if2 .left))) (c .if3 .taken), c .if3 .taken)
 
 returns-3 : tie.Need-returns-3
 returns-3 c =
-    let start = c .before .before .before .before .before .before .before .before .before .before in
-    let not-full = was (c .before .before .before .before .before .before .full .ensures) (c .before .before .before .before .before .if1 .left) in
+    let roomy = c .before .before .before .before .before in
+    let start = roomy .before .before .before .before .before in
+    let not-full = was (roomy .before .full .ensures) (roomy .if1 .left) in
     let same = c .finish .ensures .0 in
-    let kept = kept-stays (start .args .walk) (now (start .args .input)) same (c .finish .ensures .1 .0) in (
+    let out = c .finish .ensures .1 .0 in
+    let kept = kept-stays (start .args .walk) (now (start .args .input)) same out in (
       fine-stays (start .args .walk) same (start .pre .0),
-      (omega (arith, c .finish .ensures .1 .0, start .pre .1), λ rest l. turned-kept (start .args .settings) (start .args .walk) not-full kept l),
+      (omega (arith, out, start .pre .1), λ rest l. turned-kept (start .args .settings) (start .args .walk) not-full kept l),
     )
 
 serve-requires : tie.Need-serve-requires
 serve-requires c κs =
-    let start = c .before .before .before .before .before .before .before .before .before .before .before .before in (
-      start .pre .0,
-      (
-        was (c .before .before .before .before .before .before .ready .ensures) (not-false _ (c .before .before .before .before .before .if2 .left)),
-        roomy _ _ (was (c .before .before .before .before .before .before .before .before .full .ensures) (c .before .before .before .before .before .before .before .if1 .left)) (start .pre .1),
-      ),
-    )
+    let at-ready = c .before .before .before .before .before in
+    let at-room = at-ready .before .before in
+    let start = at-room .before .before .before .before .before in
+    let is-ready = was (at-ready .before .ready .ensures) (not-false _ (at-ready .if2 .left)) in
+    let not-full = was (at-room .before .full .ensures) (at-room .if1 .left) in
+    (start .pre .0, (is-ready, roomy _ _ not-full (start .pre .1)))
 
 same-length-3 : tie.Need-same-length-3
 same-length-3 c = search needs
@@ -80,13 +87,16 @@ same-length-5 c = search needs
 
 returns-4 : tie.Need-returns-4
 returns-4 c =
-    let start = c .before .before .before .before .before .before .before .before .before .before .before .before .before .before .before .before .before in
-    let not-full = was (c .before .before .before .before .before .before .before .before .before .before .before .before .before .full .ensures) (c .before .before .before .before .before .before .before .before .before .before .before .before .if1 .left) in
-    let is-ready = was (c .before .before .before .before .before .before .before .before .before .before .before .ready .ensures) (not-false _ (c .before .before .before .before .before .before .before .before .before .before .if2 .left)) in
-    let done = c .before .before .before .before .serve .ensures in (
-      done .1 .0,
-      (done .1 .1, λ rest l. turned-serve (start .args .settings) (start .args .walk) (start .pre .0) (done .0) l is-ready (c .before .before .before .before .before .before .before .before .if3 .left) not-full),
-    )
+    let at-serve = c .before .before .before .before in
+    let apart = at-serve .before .before .before .before in
+    let at-ready = apart .before .before in
+    let at-room = at-ready .before .before in
+    let start = at-room .before .before .before .before .before in
+    let is-ready = was (at-ready .before .ready .ensures) (not-false _ (at-ready .if2 .left)) in
+    let not-full = was (at-room .before .full .ensures) (at-room .if1 .left) in
+    let s = at-serve .serve .ensures in
+    let a = start .args in
+    (s .1 .0, (s .1 .1, λ rest l. turned-serve (a .settings) (a .walk) (start .pre .0) (s .0) l is-ready (apart .if3 .left) not-full))
 
 pub turn-spec : {M : Type 1} → statement M
 turn-spec =
