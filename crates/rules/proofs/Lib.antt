@@ -6,6 +6,7 @@ pub mod Due
 pub mod Finish
 pub mod Keys
 pub mod Lists
+pub mod Offer
 pub mod Row
 pub mod Runs
 pub mod Send

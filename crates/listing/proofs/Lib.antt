@@ -1,0 +1,3 @@
+mod Move
+mod Owed
+mod Text

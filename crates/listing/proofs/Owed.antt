@@ -1,0 +1,211 @@
+-- An offer that is cut with enough at hand is the next offer of the recording, so its line is the next that is owed.
+use Prim.Native.Nat.{ℕ, _+_, _-_, _%_, _^_, _≤_, _<_}
+use native.Mathlib.Omega.{arith}
+use mathlib.Core.Logic.{_⊎_, inl, inr}
+use mathlib.Core.Path.{_≡_, refl, ap, sym, _∙_}
+use mathlib.Core.Bool.{Bool, true, false}
+use mathlib.Core.List.{List, [], _∷_, _++_, append-assoc, append-nil}
+use lib.Dec.{leb, ltb}
+use lib.ListN.{length, replicate, take, drop, length-append, length-take, length-drop}
+use lib.Seq.{length-take-le, take-at, drop-at, drop-drop, take-add, take-append-add}
+use borrow.Author.Tests.{leb-true, ltb-false}
+use Rattle.wire.specs.Choice.{pick, either}
+use Rattle.wire.proofs.Choice.{either-false}
+use Rattle.rules.specs.declared.Settings.{Settings}
+use Rattle.rules.specs.declared.Step.{Step}
+use Rattle.rules.specs.declared.State.{State}
+use Rattle.rules.specs.declared.State.the-variants.{Idle}
+use Rattle.rules.specs.Cut.{offerLength, offersWithin, offers}
+use Rattle.rules.specs.Step.{Outcome, Does, stepOf}
+use Rattle.rules.proofs.Offer.{offer-within, offer-some, offer-window, offers-more}
+use Rattle.listing.specs.declared.Walk.{Walk}
+use Rattle.listing.specs.Text.{line, Put}
+use Rattle.listing.specs.Lines.{listingSettings, linesOf, listing}
+use Rattle.listing.specs.Walk.{Fine, atHand, Left, ready, Stays, Kept, offered, outcomeOf, Served, full, written, owed, Turned}
+use Rattle.listing.proofs.Text.{put-front}
+
+-- ---- an offer within the bytes at hand
+pub stop-within : (b : List ℕ) (s e n : ℕ) → s ≤ e → e ≤ length b → n ≡ offerLength (take (e - s) (drop s b)) → s + n ≤ e
+stop-within b s e n h k q =
+    let l : length (take (e - s) (drop s b)) ≡ e - s = length-take-le (e - s) (drop s b) (omega (arith, length-drop s b)) in
+    omega (arith, q, l, offer-within (take (e - s) (drop s b)))
+
+abbrev onward : Walk → ℕ → ℕ → ℕ → State → Walk
+onward w n offset out state =
+    record {
+      start = w .start + n;
+      end = w .end;
+      offset = offset;
+      out = out;
+      over = w .over;
+      done = false;
+      state = state;
+    }
+
+pub served : {o o′ u′ : List ℕ} {at z n : ℕ} {s : Step} (c : Settings) (w : Walk) (b u : List ℕ) → n ≡ offerLength (atHand w b)
+    → Does (stepOf c (w .state) (take (w .start + n - w .start) (drop (w .start) b)) u) s u′
+    → Put o (w .out) (line (w .offset) (s .answer)) at o′ → z ≡ (w .offset + n) % 2 ^ 64
+    → Served c w b o u (onward w n z at (s .state)) o′ u′
+served {n = n} c w b u e d k x =
+    let y : w .start + n - w .start ≡ n = omega arith in
+    let f = rw (y, e) at d in
+    record {
+      start = rw e;
+      end = refl;
+      over = refl;
+      done = refl;
+      offset = x ∙ rw e;
+      state = ap (λ (s : Step). s .state) (f .step);
+      unit = f .buffer;
+      text = rw (f .step) at k;
+    }
+
+-- ---- the recording's next offer
+-- the bytes at hand are the first n of them and those behind
+hand-split : (b : List ℕ) (s e n : ℕ) → s + n ≤ e
+    → take n (drop s b) ++ take (e - (s + n)) (drop (s + n) b) ≡ take (e - s) (drop s b)
+hand-split b s e n h =
+    let m : n + (e - (s + n)) ≡ e - s = omega arith in
+    ap (λ (l : List ℕ). take n (drop s b) ++ take (e - (s + n)) l) (sym (drop-drop n s b))
+    ∙ sym (take-add n (e - (s + n)) (drop s b))
+    ∙ ap (λ (k : ℕ). take k (drop s b)) m
+
+front-before : (b rest : List ℕ) (s e n : ℕ) → s + n ≤ e → length (take n (drop s b)) ≡ n
+    → take (e - (s + n)) rest ≡ take (e - (s + n)) (drop (s + n) b)
+    → take (e - s) (take n (drop s b) ++ rest) ≡ take (e - s) (drop s b)
+front-before b rest s e n h l f =
+    let p : List ℕ = take n (drop s b) in
+    let m : e - s ≡ length p + (e - (s + n)) = omega arith in
+    ap (λ (k : ℕ). take k (p ++ rest)) m
+    ∙ take-append-add p rest (e - (s + n))
+    ∙ ap (λ (t : List ℕ). p ++ t) f
+    ∙ hand-split b s e n h
+
+abbrev Enough : ℕ → List ℕ → Type 0
+Enough n rest = (4098 ≤ n) ⊎ (length rest ≤ n)
+
+enough : (w : Walk) (b rest : List ℕ) → ready w ≡ true → Left w b rest → Enough (w .end - w .start) rest
+unfolding ready either
+enough w b rest h l = go (w .over) refl h
+  where
+    go : (t : Bool) → w .over ≡ t → either t (leb 4098 (w .end - w .start)) ≡ true → Enough (w .end - w .start) rest
+    go true e q = inr (l .all e)
+    go false e q = inl (leb-true _ _ q)
+
+-- with enough at hand, the offer of the bytes at hand is the recording's
+pub same-offer : (w : Walk) (b rest : List ℕ) → ready w ≡ true → Left w b rest → offerLength rest ≡ offerLength (atHand w b)
+same-offer w b rest h l = sym (offer-window (w .end - w .start) rest (enough w b rest h l)) ∙ ap offerLength (l .front)
+
+-- ---- what a turn owes
+-- no line's room is short, so nothing is written
+nothing : (w : Walk) (o : List ℕ) → full w (length o) ≡ false → written w o ≡ []
+unfolding written pick
+nothing w o h = rw h
+
+pub turned-kept : {b b′ o u rest : List ℕ} {r : Walk} (c : Settings) (w : Walk) → full w (length o) ≡ false → Kept w b r b′
+    → Left r b′ rest → Turned c w b o u r o u rest
+unfolding owed
+turned-kept {o = o} {rest = rest} c w h k l =
+    record { rest = rest; left = k .left rest l; same = rw (nothing w o h, k .out, k .offset, k .state) }
+
+left-stays : {r : Walk} (w : Walk) (b rest : List ℕ) → Stays w r → Left r b rest → Left w b rest
+left-stays w b rest s l =
+    record { front = rw (s .start, s .end) at (l .front); all = λ t. rw (s .start, s .end) at (l .all (s .over ∙ t)) }
+
+pub kept-stays : {r : Walk} (w : Walk) (b : List ℕ) → Stays w r → r .out ≡ w .out → Kept w b r b
+kept-stays w b s e =
+    record {
+      left = λ rest l. left-stays w b rest s l;
+      over = λ t. rw (s .start, s .end);
+      offset = s .offset;
+      out = e;
+      state = s .state;
+    }
+
+pub turned-flush : {b o u rest : List ℕ} {r : Walk} (c : Settings) (w : Walk) → full w (length o) ≡ true → Stays w r → r .out ≡ 0
+    → Left r b rest → Turned c w b o u r o u rest
+unfolding owed written pick
+turned-flush {b = b} {rest = rest} c w h s e l =
+    record { rest = rest; left = left-stays w b rest s l; same = rw (h, e, s .offset, s .state) }
+
+module _
+    {b o o′ u u′ rest : List ℕ} {r : Walk} (c : Settings) (w : Walk) (fine : Fine w (length b)) (s : Served c w b o u r o′ u′)
+    (l : Left r b rest) where
+  abbrev n : ℕ
+  n = offerLength (atHand w b)
+
+  abbrev p : List ℕ
+  p = offered w b
+
+  stop : w .start + n ≤ w .end
+  stop = stop-within b (w .start) (w .end) n (fine .order) (fine .within) refl
+
+  long : length p ≡ n
+  long = length-take-le n (drop (w .start) b) (omega (arith, length-drop (w .start) b, stop, fine .within))
+
+  -- the offer and what is left behind it were left before
+  before : Left w b (p ++ rest)
+  before =
+      record {
+        front = front-before b rest (w .start) (w .end) n stop long (rw (s .start, s .end) at (l .front));
+        all = λ t. omega (arith, rw (s .start, s .end) at (l .all (s .over ∙ t)), length-append p rest, long, stop);
+      }
+
+  some : (w .start ≡ w .end → ⊥) → 0 < n
+  some apart =
+      let h : w .end - w .start ≤ length (drop (w .start) b) = omega (arith, length-drop (w .start) b, fine .within) in
+      offer-some (atHand w b) (omega (arith, apart, fine .order, length-take-le (w .end - w .start) (drop (w .start) b) h))
+
+  -- the offer is the recording's next
+  next : ready w ≡ true → (w .start ≡ w .end → ⊥) → offers (p ++ rest) ≡ p ∷ offers rest
+  next h apart =
+      let q : offerLength (p ++ rest) ≡ n = same-offer w b (p ++ rest) h before in
+      offers-more (p ++ rest) (omega (arith, length-append p rest, long, some apart))
+      ∙ rw (q, take-at p rest n long, drop-at p rest n long)
+
+  pub turned-serve : ready w ≡ true → (w .start ≡ w .end → ⊥) → full w (length o) ≡ false → Turned c w b o u r o′ u′ rest
+  unfolding owed linesOf
+  turned-serve h apart k =
+      let x : Outcome = outcomeOf c w b u in
+      let more : List ℕ = linesOf c ((w .offset + length p) % 2 ^ 64) (x .step .state) (x .buffer) (offers rest) in
+      record {
+        rest = p ++ rest;
+        left = before;
+        same = ap (λ (x : List (List ℕ)). take (w .out) o ++ linesOf c (w .offset) (w .state) u x) (next h apart)
+            ∙ sym (append-assoc (take (w .out) o) (line (w .offset) (x .step .answer)) more)
+            ∙ rw (nothing w o k, put-front (s .text), s .offset, s .state, s .unit, long);
+      }
+
+-- ready with nothing at hand: the input has ended
+pub ended : (w : Walk) → ready w ≡ true → w .start ≡ w .end → w .over ≡ true
+unfolding ready either
+ended w h e = go (w .over) h
+  where
+    go : (t : Bool) → either t (leb 4098 (w .end - w .start)) ≡ true → t ≡ true
+    go true q = refl
+    go false q = absurd (omega (arith, leb-true 4098 (w .end - w .start) q))
+
+-- not ready: the input has not ended
+pub unended : (w : Walk) → ready w ≡ false → w .over ≡ false
+unfolding ready
+unended w h = either-false _ _ h .0
+
+pub fine-stays : {r : Walk} {k : ℕ} (w : Walk) → Stays w r → Fine w k → Fine r k
+fine-stays w s f = record { order = rw (s .start, s .end) (f .order); within = rw (s .end) (f .within) }
+
+-- not full: a line fits
+pub roomy : (w : Walk) (k : ℕ) → full w k ≡ false → w .out ≤ k → w .out + 63 ≤ k
+unfolding full
+roomy w k h m = omega (arith, ltb-false (k - w .out) 63 h)
+
+-- ---- the start and the end
+pub owed-fresh : (w : Walk) (o recording : List ℕ) → w .out ≡ 0 → w .offset ≡ 0 → w .state ≡ Idle
+    → owed listingSettings w o (replicate 65535 0) recording ≡ listing recording
+unfolding owed listing
+owed-fresh w o recording e f g = rw (e, f, g)
+
+pub owed-end : {b rest : List ℕ} (c : Settings) (w : Walk) (o u : List ℕ) → w .over ≡ true → w .start ≡ w .end → Left w b rest
+    → owed c w o u rest ≡ take (w .out) o
+unfolding owed linesOf offers offersWithin
+owed-end {rest = []} c w o u h e l = append-nil (take (w .out) o)
+owed-end {rest = x ∷ rest} c w o u h e l = absurd (omega (arith, l .all h))

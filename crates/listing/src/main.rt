@@ -1,0 +1,275 @@
+// Cuts standard input into offers, gives each to the receiver, and writes a line for each: offset, answer, unit length.
+// Document 01, 'Listing'.
+use libc::STDIN_FILENO;
+use libc::STDOUT_FILENO;
+use rules::Address;
+use rules::Answer;
+use rules::Settings;
+use rules::State;
+ghost use mathlib.Core.Path.{_≡_};
+ghost use mathlib.Core.Bool.{Bool, true, false};
+ghost use mathlib.Core.List.{List, [], _∷_, _++_};
+ghost use Prim.Native.Nat.{ℕ, _+_, _≤_, _<_};
+ghost use lib.ListN.{length, drop, take, replicate};
+ghost use Rattle.listing.specs.Text.{decimal, field, line, Put};
+ghost use Rattle.rules.specs.declared.Settings.{Settings as Given};
+ghost use Rattle.listing.specs.Lines.{listingSettings, listing};
+ghost use Rattle.listing.specs.Walk.{Fine, Left, ready, Stays, Kept, Served, Room, full, owed, Turned};
+
+// The bytes at hand are start..end of the input's buffer, the first of them is number `offset` of the input, and the output's
+// buffer holds `out` bytes of whole lines. over: the input has ended; done: nothing more is to be done.
+struct Walk {
+    start: usize,
+    end: usize,
+    offset: u64,
+    out: usize,
+    over: bool,
+    done: bool,
+    state: State,
+}
+
+// Puts one byte at `at` and answers where it ends.
+fn put_byte(output: &mut [u8], at: usize, byte: u8) -> usize
+    requires { ⌜ at + 1 ≤ length (now output) ⌝ }
+    ensures { λ r. ⌜ Put (now (output .entry)) at (byte ∷ []) r (now (output .exit)) ⌝ }
+{
+    output[at] = byte;
+    at + 1
+}
+
+// The ASCII digit of a number below 10.
+fn digit(n: u64) -> u8
+    requires { ⌜ n < 10 ⌝ }
+    ensures { λ r. ⌜ r ≡ 48 + n ⌝ }
+{
+    48 + n as u8
+}
+
+// Puts a number in decimal: the digits before the last, then the last.
+fn put_decimal(output: &mut [u8], at: usize, n: u64) -> usize
+    requires { ⌜ at + length (decimal n) ≤ length (now output) ⌝ }
+    ensures { λ r. ⌜ Put (now (output .entry)) at (decimal n) r (now (output .exit)) ⌝ }
+{
+    if n < 10 {
+        return put_byte(output, at, digit(n));
+    }
+    let end = put_decimal(output, at, n / 10);
+    put_byte(output, end, digit(n % 10))
+}
+
+// Puts a number and the byte behind it.
+fn put_field(output: &mut [u8], at: usize, n: u64, mark: u8) -> usize
+    requires { ⌜ at + 21 ≤ length (now output) ⌝ }
+    ensures { λ r. ⌜ Put (now (output .entry)) at (field n mark) r (now (output .exit)) ⌝ }
+{
+    let end = put_decimal(output, at, n);
+    put_byte(output, end, mark)
+}
+
+fn put_line(output: &mut [u8], at: usize, offset: u64, answer: Answer) -> usize
+    requires { ⌜ at + 63 ≤ length (now output) ⌝ }
+    ensures { λ r. ⌜ Put (now (output .entry)) at (line offset answer) r (now (output .exit)) ⌝ }
+{
+    let number = receiver::number_of(answer) as u64;
+    let length = receiver::length_of(answer) as u64;
+    let second = put_field(output, at, offset, b' ');
+    let third = put_field(output, second, number, b' ');
+    put_field(output, third, length, b'\n')
+}
+
+// One offer: the receiver gets it, and its line is put into the output's buffer.
+fn serve(settings: Settings, walk: Walk, input: &[u8], output: &mut [u8], unit: &mut [u8]) -> Walk
+    requires { ⌜ Fine walk (length (now input)) ⌝ }
+    requires { ⌜ ready walk ≡ true ⌝ }
+    requires { ⌜ walk .out + 63 ≤ length (now output) ⌝ }
+    ensures { λ r. ⌜ Served settings walk (now (input .entry)) (now (output .entry)) (now (unit .entry))
+        r (now (output .exit)) (now (unit .exit)) ⌝ }
+    ensures { λ r. ⌜ Fine r (length (now (input .entry))) ⌝ }
+    ensures { λ r. ⌜ Room r (length (now (output .entry))) ⌝ }
+{
+    let start = walk.start;
+    let end = walk.end;
+    let state = walk.state;
+    let n = section::cut::offer_length(&input[start..end]);
+    let stop = start + n;
+    let step = receiver::receive(settings, state, &input[start..stop], unit);
+    let answer = step.answer;
+    let after = step.state;
+    let at = put_line(output, walk.out, walk.offset, answer);
+    Walk {
+        start: stop,
+        end: end,
+        offset: std::num::wrapping_add_u64(walk.offset, n as u64),
+        out: at,
+        over: walk.over,
+        done: false,
+        state: after,
+    }
+}
+
+// Moves the n bytes from index `from` on to the start.
+fn move_down(buffer: &mut [u8], from: usize, n: usize)
+    requires { ⌜ from + n ≤ length (now buffer) ⌝ }
+    ensures { λ _. ⌜ now (buffer .exit) ≡ take n (drop from (now (buffer .entry))) ++ drop n (now (buffer .entry)) ⌝ }
+{
+    let mut i = 0;
+    while i < n {
+        buffer[i] = buffer[from + i];
+        i += 1;
+    }
+}
+
+// One read, of as much as there is room for: 0 at the end of the input, where it cannot be read, and where there is no room.
+fn read(buffer: &mut [u8]) -> usize
+    requires { ⌜ 0 < length (now buffer) ⌝ }
+    ensures { λ r. ⌜ r ≤ length (now (buffer .entry)) ⌝ }
+{
+    let got = libc::read(STDIN_FILENO, buffer);
+    io::count(got, buffer)
+}
+
+// More input: one read behind the bytes at hand; where the room there is short, they move to the front first.
+fn refill(walk: Walk, input: &mut [u8]) -> Walk
+    requires { ⌜ Fine walk (length (now input)) ⌝ }
+    requires { ⌜ walk .over ≡ false ⌝ }
+    ensures { λ r. ⌜ Fine r (length (now (input .entry))) ⌝ }
+    ensures { λ r. ⌜ Kept walk (now (input .entry)) r (now (input .exit)) ⌝ }
+{
+    let start = walk.start;
+    let end = walk.end;
+    let mut after = walk;
+    if input.len() - end < 4098 {
+        let n = end - start;
+        move_down(input, start, n);
+        after.start = 0;
+        after.end = n;
+        return after;
+    }
+    let n = read(&mut input[end..]);
+    after.end = end + n;
+    after.over = n == 0;
+    after
+}
+
+// Writes what the output's buffer holds; where that fails, nothing more is to be done.
+fn flush(walk: Walk, output: &[u8]) -> Walk
+    requires { ⌜ Room walk (length (now output)) ⌝ }
+    ensures { λ r. ⌜ Stays walk r ⌝ }
+    ensures { λ r. ⌜ r .out ≡ 0 ⌝ }
+{
+    let out = walk.out;
+    let mut after = walk;
+    after.out = 0;
+    after.done = !io::write_all(STDOUT_FILENO, &output[..out]);
+    after
+}
+
+// The input has ended and all of it is offered: what the output's buffer holds is all that is owed.
+fn finish(walk: Walk) -> Walk
+    requires { ⌜ walk .over ≡ true ⌝ }
+    requires { ⌜ walk .start ≡ walk .end ⌝ }
+    ensures { λ r. ⌜ Stays walk r ⌝ }
+    ensures { λ r. ⌜ r .out ≡ walk .out ⌝ }
+    ensures { λ r. ⌜ ((c : Given) (b o u rest : List ℕ) → Left r b rest → owed c r o u rest ≡ take (r .out) o) ⌝ }
+{
+    let mut after = walk;
+    after.done = true;
+    after
+}
+
+fn full(walk: Walk, n: usize) -> bool
+    requires { ⌜ Room walk n ⌝ }
+    ensures { λ r. ⌜ r ≡ full walk n ⌝ }
+{
+    n - walk.out < 63
+}
+
+fn ready(walk: Walk) -> bool
+    requires { ⌜ walk .start ≤ walk .end ⌝ }
+    ensures { λ r. ⌜ r ≡ ready walk ⌝ }
+{
+    wire::either(walk.over, 4098 <= walk.end - walk.start)
+}
+
+// One turn: a flush, more input, the end, or an offer.
+fn turn(
+    settings: Settings,
+    walk: Walk,
+    input: &mut [u8],
+    output: &mut [u8],
+    unit: &mut [u8],
+) -> Walk
+    requires { ⌜ Fine walk (length (now input)) ⌝ }
+    requires { ⌜ Room walk (length (now output)) ⌝ }
+    ensures { λ r. ⌜ Fine r (length (now (input .entry))) ⌝ }
+    ensures { λ r. ⌜ Room r (length (now (output .entry))) ⌝ }
+    ensures { λ r. ⌜ ((rest : List ℕ) → Left r (now (input .exit)) rest →
+        Turned settings walk (now (input .entry)) (now (output .entry)) (now (unit .entry))
+        r (now (output .exit)) (now (unit .exit)) rest) ⌝ }
+{
+    if full(walk, output.len()) {
+        return flush(walk, output);
+    }
+    if !ready(walk) {
+        return refill(walk, input);
+    }
+    if walk.start == walk.end {
+        return finish(walk);
+    }
+    serve(settings, walk, input, output, unit)
+}
+
+// At the start of a recording, with a fresh receiver: its listing is owed.
+fn fresh() -> Walk
+    ensures { λ r. ⌜ ((o recording : List ℕ) → owed listingSettings r o (replicate 65535 0) recording ≡ listing recording) ⌝ }
+    ensures { λ r. ⌜ (Fine r 0) × (Room r 0) ⌝ }
+{
+    Walk {
+        start: 0,
+        end: 0,
+        offset: 0,
+        out: 0,
+        over: false,
+        done: false,
+        state: State::Idle,
+    }
+}
+
+// A proved loop has to end, and nothing says that the input does: the turns count down from a number that no run uses up.
+fn run(settings: Settings, input: &mut [u8], output: &mut [u8], unit: &mut [u8]) {
+    let mut walk = fresh();
+    let mut turns = u64::MAX;
+    while turns > 0 {
+        if walk.done {
+            break;
+        }
+        walk = turn(settings, walk, input, output, unit);
+        turns -= 1;
+    }
+    let out = walk.out;
+    io::write_all(STDOUT_FILENO, &output[..out]);
+}
+
+fn listing_settings() -> Settings
+    ensures { λ r. ⌜ r ≡ listingSettings ⌝ }
+{
+    Settings {
+        address: Address {
+            mac1: 0x02,
+            mac2: 0x00,
+            mac3: 0x5e,
+            mac4: 0x10,
+            mac5: 0x20,
+            mac6: 0x30,
+        },
+        range: 6,
+        limit: 16,
+    }
+}
+
+fn main() {
+    let mut input = io::large_buffer();
+    let mut output = io::large_buffer();
+    let mut unit = [0; 65535];
+    run(listing_settings(), &mut input, &mut output, &mut unit);
+}
