@@ -14,6 +14,7 @@ use borrow.Author.Needs.{needs}
 use Rattle.notification.proofs.notice.Statement.{statement}
 use Rattle.notification.proofs.notice.Tie as tie
 
+-- the pair stands before the end
 inside : (h : List ℕ) (q t o : ℕ) → Turns h q → q < length h → 2 + t ≡ loopSize (drop q h) → 2 + o ≡ loopSize (drop (q + 2 + t) h)
     → q + 4 + t + o ≤ length h
 inside h q t o k l et eo = omega (arith, second-whole h q k l (q + 2 + t) (omega arith))
@@ -47,9 +48,7 @@ loop-at-requires c κs = let A = c .before .before .before .before .before .befo
     looped (A .device) (now (A .s)) (now (H .result)) (H .ensures .bytes) z .platform
 
 loop-at-requires-2 : tie.Need-loop-at-requires-2
-loop-at-requires-2 c κs = let A = c .before .before .before .before .before .before .before .args in
-    let H = c .before .before .before .checked in
-    let z = was (c .before .before .before .before .before .refusal .ensures) (c .before .before .before .before .if1 .left) in
+loop-at-requires-2 c κs = let H = c .before .before .before .checked in
     let Q = c .before .before .answering in
     let l : Q .result < length (now (H .result)) = below (Q .ensures .turns .inside) (c .before .if2 .left) in
     first-whole (now (H .result)) (Q .result) (Q .ensures .turns) l
@@ -61,9 +60,7 @@ add-loop-at-2 : tie.Need-add-loop-at-2
 add-loop-at-2 c = search needs
 
 loop-at-requires-3 : tie.Need-loop-at-requires-3
-loop-at-requires-3 c κs = let A = c .before .before .before .before .before .before .before .before .args in
-    let H = c .before .before .before .before .checked in
-    let z = was (c .before .before .before .before .before .before .refusal .ensures) (c .before .before .before .before .before .if1 .left) in
+loop-at-requires-3 c κs = let H = c .before .before .before .before .checked in
     let Q = c .before .before .before .answering in
     let l : Q .result < length (now (H .result)) = below (Q .ensures .turns .inside) (c .before .before .if2 .left) in
     second-whole (now (H .result)) (Q .result) (Q .ensures .turns) l _ (omega (arith, c .loop-at2 .ensures .size))

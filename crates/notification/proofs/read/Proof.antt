@@ -47,9 +47,7 @@ loop-at-requires c κs = let A = c .before .before .before .before .before .befo
     looped (A .device) (now (A .s)) (now (H .result)) (H .ensures .bytes) z .platform
 
 loop-at-requires-2 : tie.Need-loop-at-requires-2
-loop-at-requires-2 c κs = let A = c .before .before .before .before .before .before .before .args in
-    let H = c .before .before .before .checked in
-    let z = was (c .before .before .before .before .before .refusal .ensures) (c .before .before .before .before .if1 .left) in
+loop-at-requires-2 c κs = let H = c .before .before .before .checked in
     let Q = c .before .before .answering in
     let l : Q .result < length (now (H .result)) = below (Q .ensures .turns .inside) (c .before .if2 .left) in
     first-whole (now (H .result)) (Q .result) (Q .ensures .turns) l
@@ -61,9 +59,7 @@ add-loop-at-2 : tie.Need-add-loop-at-2
 add-loop-at-2 c = search needs
 
 loop-at-requires-3 : tie.Need-loop-at-requires-3
-loop-at-requires-3 c κs = let A = c .before .before .before .before .before .before .before .before .args in
-    let H = c .before .before .before .before .checked in
-    let z = was (c .before .before .before .before .before .before .refusal .ensures) (c .before .before .before .before .before .if1 .left) in
+loop-at-requires-3 c κs = let H = c .before .before .before .before .checked in
     let Q = c .before .before .before .answering in
     let l : Q .result < length (now (H .result)) = below (Q .ensures .turns .inside) (c .before .before .if2 .left) in
     second-whole (now (H .result)) (Q .result) (Q .ensures .turns) l _ (omega (arith, c .loop-at2 .ensures .size))
