@@ -3,10 +3,9 @@
 use libc::STDERR_FILENO;
 use libc::STDIN_FILENO;
 use libc::STDOUT_FILENO;
-use rules::Address;
 use rules::Sending;
-use rules::Settings;
-ghost use Rattle.archive.specs.Archive.{settings, Filled};
+ghost use Rattle.archive.specs.Archive.{Filled};
+ghost use Rattle.rules.specs.Cut.{listingSettings};
 ghost use Rattle.rules.specs.Send.{sentOf, defaultPiece, Sends};
 ghost use mathlib.Core.Bool.{false};
 ghost use mathlib.Core.Path.{_≡_};
@@ -45,28 +44,10 @@ fn read_input(buffer: &mut [u8]) -> Input
     Input::Bytes(filled)
 }
 
-// The listing's settings.
-fn settings() -> Settings
-    ensures { λ r. ⌜ r ≡ settings ⌝ }
-{
-    Settings {
-        address: Address {
-            mac1: 0x02,
-            mac2: 0x00,
-            mac3: 0x5e,
-            mac4: 0x10,
-            mac5: 0x20,
-            mac6: 0x30,
-        },
-        range: 6,
-        limit: 16,
-    }
-}
-
 fn archive(unit: &[u8], out: &mut [u8]) -> Sending
-    ensures { λ r. ⌜ Sends (sentOf settings false defaultPiece (now (unit .entry)) (now (out .entry))) r (now (out .exit)) ⌝ }
+    ensures { λ r. ⌜ Sends (sentOf listingSettings false defaultPiece (now (unit .entry)) (now (out .entry))) r (now (out .exit)) ⌝ }
 {
-    sender::send_by_default(settings(), false, unit, out)
+    sender::send_by_default(section::settings::listing_settings(), false, unit, out)
 }
 
 fn answer(unit: &[u8], out: &mut [u8]) {

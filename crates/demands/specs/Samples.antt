@@ -5,9 +5,9 @@ use mathlib.Core.List.{List, [], _∷_, _++_, flatten}
 use mathlib.Core.Bool.{Bool, true, false}
 use lib.ListN.{replicate, take}
 use Rattle.wire.specs.Choice.{pick}
-use Rattle.rules.specs.declared.Address.{Address}
 use Rattle.rules.specs.declared.Settings.{Settings}
 use Rattle.rules.specs.Check.{check}
+use Rattle.rules.specs.Cut.{listingSettings}
 use Rattle.rules.specs.Section.{header, sealed, sectionOf}
 use Rattle.rules.specs.Send.{sections}
 use Rattle.rules.specs.Step.{lengthOf, numberOf, Outcome, stepOf}
@@ -17,9 +17,9 @@ use Rattle.pes_rules.specs.Packet.{dataOf, readOf}
 use Rattle.notification_rules.specs.Notice.{noticeOf, numberOf as noticeNumber}
 
 -- ---- the bench
--- 02:00:5E:10:20:30, range 6, at most 16 sections
+-- the settings of the listing
 abbrev pub own : Settings
-own = record { address = record { mac1 = 0x02; mac2 = 0x00; mac3 = 0x5E; mac4 = 0x10; mac5 = 0x20; mac6 = 0x30 }; range = 6; limit = 16 }
+own = listingSettings
 
 -- a section of our own address: its number, the last number, and a payload of n bytes
 abbrev pub ours : ℕ → ℕ → ℕ → Event

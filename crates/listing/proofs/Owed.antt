@@ -20,7 +20,8 @@ use Rattle.rules.specs.Step.{Outcome, Does, stepOf}
 use Rattle.rules.proofs.Offer.{offer-within, offer-some, offer-window, offers-more}
 use Rattle.listing.specs.declared.Walk.{Walk}
 use Rattle.listing.specs.Text.{line, Put}
-use Rattle.listing.specs.Lines.{listingSettings, linesOf, listing}
+use Rattle.rules.specs.Cut.{listingSettings}
+use Rattle.listing.specs.Lines.{linesOf, listing}
 use Rattle.listing.specs.Walk.{Fine, atHand, Left, ready, Stays, Kept, offered, outcomeOf, Served, full, written, owed, Turned}
 use Rattle.listing.proofs.Text.{put-front}
 

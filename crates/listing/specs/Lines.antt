@@ -5,18 +5,9 @@ use lib.ListN.{length, replicate}
 use Rattle.rules.specs.declared.Settings.{Settings}
 use Rattle.rules.specs.declared.State.{State}
 use Rattle.rules.specs.declared.State.the-variants.{Idle}
-use Rattle.rules.specs.Cut.{offers}
+use Rattle.rules.specs.Cut.{listingSettings, offers}
 use Rattle.rules.specs.Step.{stepOf}
 use Rattle.listing.specs.Text.{line}
-
--- address 02:00:5E:10:20:30, range 6, limit 16
-abbrev pub listingSettings : Settings
-listingSettings =
-    record {
-      address = record { mac1 = 0x02; mac2 = 0x00; mac3 = 0x5E; mac4 = 0x10; mac5 = 0x20; mac6 = 0x30 };
-      range = 6;
-      limit = 16;
-    }
 
 -- a line an offer, the offset counted in 64 bits
 unfoldable pub linesOf : Settings → ℕ → State → List ℕ → List (List ℕ) → List ℕ

@@ -2,7 +2,6 @@
 // Document 01, 'Listing'.
 use libc::STDIN_FILENO;
 use libc::STDOUT_FILENO;
-use rules::Address;
 use rules::Answer;
 use rules::Settings;
 use rules::State;
@@ -13,7 +12,8 @@ ghost use Prim.Native.Nat.{ℕ, _+_, _≤_, _<_};
 ghost use lib.ListN.{length, drop, take, replicate};
 ghost use Rattle.listing.specs.Text.{decimal, field, line, Put};
 ghost use Rattle.rules.specs.declared.Settings.{Settings as Given};
-ghost use Rattle.listing.specs.Lines.{listingSettings, listing};
+ghost use Rattle.rules.specs.Cut.{listingSettings};
+ghost use Rattle.listing.specs.Lines.{listing};
 ghost use Rattle.listing.specs.Walk.{Fine, Left, ready, Stays, Kept, Served, Room, full, owed, Turned};
 
 // The bytes at hand are start..end of the input's buffer, the first of them is number `offset` of the input, and the output's
@@ -250,26 +250,14 @@ fn run(settings: Settings, input: &mut [u8], output: &mut [u8], unit: &mut [u8])
     io::write_all(STDOUT_FILENO, &output[..out]);
 }
 
-fn listing_settings() -> Settings
-    ensures { λ r. ⌜ r ≡ listingSettings ⌝ }
-{
-    Settings {
-        address: Address {
-            mac1: 0x02,
-            mac2: 0x00,
-            mac3: 0x5e,
-            mac4: 0x10,
-            mac5: 0x20,
-            mac6: 0x30,
-        },
-        range: 6,
-        limit: 16,
-    }
-}
-
 fn main() {
     let mut input = io::large_buffer();
     let mut output = io::large_buffer();
     let mut unit = [0; 65535];
-    run(listing_settings(), &mut input, &mut output, &mut unit);
+    run(
+        section::settings::listing_settings(),
+        &mut input,
+        &mut output,
+        &mut unit,
+    );
 }

@@ -1,9 +1,7 @@
 // Runs published vectors of CRC_32 and the samples of document 01 that are not proved, and prints a line for each; an independent
 // second program prints the same lines. A vector is cited where it is given.
 use libc::STDOUT_FILENO;
-use rules::Address;
 use rules::Sending;
-use rules::Settings;
 ghost use mathlib.Core.Path.{_≡_};
 ghost use Prim.Native.Nat.{_<_};
 ghost use lib.ListN.{length};
@@ -68,25 +66,15 @@ fn print_number(n: usize) {
     io::print_decimal(STDOUT_FILENO, n as u64);
 }
 
-// The listing's settings.
-fn settings() -> Settings {
-    Settings {
-        address: Address {
-            mac1: 0x02,
-            mac2: 0x00,
-            mac3: 0x5e,
-            mac4: 0x10,
-            mac5: 0x20,
-            mac6: 0x30,
-        },
-        range: 6,
-        limit: 16,
-    }
-}
-
 // A line of the sender: unit length, piece size, number of sections, their length in all.
 fn send_line(size: usize, unit: &[u8], out: &mut [u8]) {
-    let Sending::Sent(total) = sender::send(settings(), false, size, unit, out) else {
+    let Sending::Sent(total) = sender::send(
+        section::settings::listing_settings(),
+        false,
+        size,
+        unit,
+        out,
+    ) else {
         return;
     };
     print(b"send");

@@ -7,7 +7,7 @@ use denote.Ref.{now}
 use Rattle.wire.proofs.Choice.{was}
 use Rattle.rules.specs.Send.{defaultPiece}
 use Rattle.rules.proofs.Send.{given-fits}
-use Rattle.archive.specs.Archive.{settings}
+use Rattle.rules.specs.Cut.{listingSettings}
 use borrow.Author.Needs.{needs}
 use Rattle.archive.proofs.answer.Statement.{statement}
 use Rattle.archive.proofs.answer.Tie as tie
@@ -23,7 +23,7 @@ slice-reshare-prefix-write-all c =
     let r = c .before .before .before .before .before in
     let a = r .before .before .before .before .args in
     let sent = was (r .archive .ensures .sending) (c .before .length .given .1) in
-    let fits = given-fits settings false defaultPiece (now (a .unit)) (now (a .out)) _ sent in
+    let fits = given-fits listingSettings false defaultPiece (now (a .unit)) (now (a .out)) _ sent in
     omega (arith, fits)
 
 slice-aggregate-write-all : tie.Need-slice-aggregate-write-all

@@ -3,8 +3,8 @@ use borrow.Author.Needs.{needs}
 use Rattle.archive.proofs.archive.Statement.{statement}
 use Rattle.archive.proofs.archive.Tie as tie
 
-settings-requires : tie.Need-settings-requires
-settings-requires c κs = search needs
+listing-settings-requires : tie.Need-listing-settings-requires
+listing-settings-requires c κs = search needs
 
 send-by-default-requires : tie.Need-send-by-default-requires
 send-by-default-requires c κs = search needs
@@ -13,7 +13,7 @@ same-length : tie.Need-same-length
 same-length c = search needs
 
 returns : tie.Need-returns
-returns c = rw (c .before .before .before .before .settings .ensures) at (c .before .before .send-by-default .ensures)
+returns c = rw (c .before .before .before .before .listing-settings .ensures) at (c .before .before .send-by-default .ensures)
 
 pub archive-spec : {M : Type 1} → statement M
-archive-spec = tie.close (tie.spec settings-requires send-by-default-requires same-length returns)
+archive-spec = tie.close (tie.spec listing-settings-requires send-by-default-requires same-length returns)

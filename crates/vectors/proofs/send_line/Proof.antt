@@ -10,8 +10,8 @@ use borrow.Author.Needs.{needs}
 use Rattle.vectors.proofs.send_line.Statement.{statement}
 use Rattle.vectors.proofs.send_line.Tie as tie
 
-settings-requires : tie.Need-settings-requires
-settings-requires c κs = search needs
+listing-settings-requires : tie.Need-listing-settings-requires
+listing-settings-requires c κs = search needs
 
 send-requires : tie.Need-send-requires
 send-requires c κs = search needs
@@ -76,7 +76,7 @@ pub send-line-spec : {M : Type 1} → statement M
 send-line-spec =
     tie.close
     (tie.spec
-    settings-requires
+    listing-settings-requires
     send-requires
     enum-known-total
     enum-told
