@@ -47,6 +47,10 @@ use Rattle.notification.proofs.place_of.Reads as notice-place-of-reads
 use Rattle.notification.proofs.place_of.Kinds as notice-place-of-kinds
 use Rattle.exports.proofs.fossknut_notification.Reads as fossknut-notification-reads
 use Rattle.exports.proofs.fossknut_notification.Kinds as fossknut-notification-kinds
+use Rattle.section.proofs.cut.offer_length.Reads as offer-length-reads
+use Rattle.section.proofs.cut.offer_length.Kinds as offer-length-kinds
+use Rattle.section.proofs.settings.listing_settings.Reads as listing-settings-reads
+use Rattle.section.proofs.settings.listing_settings.Kinds as listing-settings-kinds
 use Rattle.exports.specs.Numbers.{numbers}
 use Rattle.receiver.proofs.receive.Reads as receive-reads
 use Rattle.receiver.proofs.receive.Kinds as receive-kinds
@@ -208,6 +212,8 @@ pub record Tight : Type 0 where
   pub fault : OneResult 1 fault-kinds.ps fault-kinds.r fault-reads.Learnt
   pub check : OneResult 1 check-kinds.ps check-kinds.r check-reads.Learnt
   pub good-settings : OneResult 0 good-settings-kinds.ps good-settings-kinds.r good-settings-reads.Learnt
+  pub listing-settings : OneResult 0 listing-settings-kinds.ps listing-settings-kinds.r listing-settings-reads.Learnt
+  pub offer-length : OneResult 1 offer-length-kinds.ps offer-length-kinds.r offer-length-reads.Learnt
   -- receiver
   pub receive : ReceiveTight
   pub gap : OneResult 0 gap-kinds.ps gap-kinds.r gap-reads.Learnt

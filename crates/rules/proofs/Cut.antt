@@ -1,33 +1,17 @@
 -- Each offer is cut off the front and takes a byte or more, so as many offers as there are bytes reach the end.
-use Prim.Native.Nat.{ℕ, zero, suc, _+_, _≤_, _<_, min}
+use Prim.Native.Nat.{ℕ, zero, suc, _+_, _≤_, _<_}
 use native.Mathlib.Nat.{le-refl}
 use native.Mathlib.Omega.{arith}
 use mathlib.Core.Path.{_≡_, refl}
-use mathlib.Core.Bool.{Bool, true, false}
 use mathlib.Core.List.{List, [], _∷_, _++_, flatten}
 use lib.ListN.{length, getD, take, drop, length-append, length-drop, take-append-drop, List·getD-append}
 use lib.Seq.{take-at, drop-at}
-use lib.Dec.{ltb}
-use borrow.Author.Tests.{le-ltb, ne-eqb}
+use borrow.Author.Tests.{le-ltb}
 use Rattle.wire.specs.Bytes.{numberAt}
 use Rattle.wire.specs.Choice.{pick}
 use Rattle.rules.specs.Section.{sectionLength}
 use Rattle.rules.specs.Cut.{offerLength, offersWithin, offers}
-
--- an offer of a recording that is not at its end takes something
-offer-some : (r : List ℕ) → 0 < length r → 0 < offerLength r
-unfolding offerLength pick
-offer-some r some = go (ltb (length r) 3)
-  where
-    go : (t : Bool) → 0 < pick t (length r) (min (3 + sectionLength r) (length r))
-    go true = some
-    go false = omega arith
-
--- the first offer, and the offers of what is behind it
-within-more : (k : ℕ) (r : List ℕ) → 0 < length r
-    → offersWithin (suc k) r ≡ take (offerLength r) r ∷ offersWithin k (drop (offerLength r) r)
-unfolding offersWithin pick
-within-more k r some = rw (ne-eqb (length r) 0 (λ z. omega arith))
+use Rattle.rules.proofs.Offer.{offer-some, within-more}
 
 within-joined : (k : ℕ) (r : List ℕ) → length r ≤ k → flatten (offersWithin k r) ≡ r
 unfolding offersWithin pick flatten
