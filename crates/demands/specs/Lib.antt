@@ -1,4 +1,5 @@
 pub mod Demand1
+pub mod Right
 pub mod Rows
 pub mod Samples
 pub mod Tight
