@@ -6,10 +6,7 @@ use mathlib.Core.List.{List, [], _∷_, _++_}
 use mathlib.Core.Bool.{Bool, true, false, not}
 use lib.ListN.{length}
 use lib.Dec.{ltb}
-use contract.Lifetimes.{Lfts}
 use denote.Ref.{now}
-use denote.Triple.Clauses.{AtExit}
-use borrow.Fn.Kinds.{Dens, resT, endedOf}
 use Rattle.wire.specs.Choice.{Line, line, firstOf}
 use Rattle.rules.specs.declared.Settings.{Settings}
 use Rattle.rules.specs.declared.State.{State}
@@ -22,6 +19,7 @@ use Rattle.pes_rules.specs.Packet.{fault as pesFault, refused as pesRefused}
 use Rattle.rules.specs.Section.{payload}
 use Rattle.rules.specs.Send.{sendingLength, sendingNumber, sendLines, SendOutcome, written}
 use Rattle.rules.specs.Step.{barLines, From, goodSettings, goodState, lengthOf, Nowhere, numberOf, ours, Outcome, Place, place, room, stepOf}
+use Rattle.demands.specs.Allowed.{Allowed}
 use Rattle.section.proofs.check.Reads as check-reads
 use Rattle.section.proofs.check.Kinds as check-kinds
 use Rattle.sender.proofs.send.Reads as send-reads
@@ -72,25 +70,28 @@ pub record Sending1 (lines : List Line) (out : List ℕ) (w o : SendOutcome) : T
 -- ---- what the contracts of the code allow
 pub record Demand1 : Type 0 where
   -- the check's number is the first of 12 to 19 that applies, else 0
-  pub check : (κs : Lfts 1) (a : Dens κs check-kinds.ps) (z : resT check-kinds.r κs .Denot) (e : AtExit (endedOf 1 check-kinds.ps check-kinds.r) κs)
-      → check-reads.Learnt κs a z e → z ≡ firstOf (checkLines (now (a .0)))
+  pub check : Allowed 1 check-kinds.ps check-kinds.r check-reads.Learnt
+      (λ κs a z e. z ≡ firstOf (checkLines (now (a .0))))
   -- the step, for all settings, states, sections and buffers
-  pub receive : (κs : Lfts 2) (a : Dens κs receive-kinds.ps) (z : resT receive-kinds.r κs .Denot)
-      (e : AtExit (endedOf 2 receive-kinds.ps receive-kinds.r) κs) → receive-reads.Learnt κs a z e
-      → ByTable (tableOf (a .0) (a .1 .0) (now (a .1 .1 .0)) (now (a .1 .1 .1 .0))) (a .1 .0) (now (a .1 .1 .1 .0))
-      (record { step = z; buffer = now (e .1 .1 .1 .0) })
+  pub receive : Allowed 2 receive-kinds.ps receive-kinds.r receive-reads.Learnt
+      (λ κs a z e.
+      ByTable (tableOf (a .0) (a .1 .0) (now (a .1 .1 .0)) (now (a .1 .1 .1 .0)))
+      (a .1 .0)
+      (now (a .1 .1 .1 .0))
+      (record { step = z; buffer = now (e .1 .1 .1 .0) }))
   -- a gap notice makes any state idle and is never refused
-  pub gap : (κs : Lfts 0) (a : Dens κs gap-kinds.ps) (z : resT gap-kinds.r κs .Denot) (e : AtExit (endedOf 0 gap-kinds.ps gap-kinds.r) κs)
-      → gap-reads.Learnt κs a z e → z ≡ Idle
+  pub gap : Allowed 0 gap-kinds.ps gap-kinds.r gap-reads.Learnt
+      (λ κs a z e. z ≡ Idle)
   -- the sender
-  pub send : (κs : Lfts 2) (a : Dens κs send-kinds.ps) (z : resT send-kinds.r κs .Denot) (e : AtExit (endedOf 2 send-kinds.ps send-kinds.r) κs)
-      → send-reads.Learnt κs a z e
-      → Sending1 (sendLines (a .0) (a .1 .0) (a .1 .1 .0) (now (a .1 .1 .1 .0)) (now (a .1 .1 .1 .1 .0))) (now (a .1 .1 .1 .1 .0))
+  pub send : Allowed 2 send-kinds.ps send-kinds.r send-reads.Learnt
+      (λ κs a z e.
+      Sending1 (sendLines (a .0) (a .1 .0) (a .1 .1 .0) (now (a .1 .1 .1 .0)) (now (a .1 .1 .1 .1 .0)))
+      (now (a .1 .1 .1 .1 .0))
       (written (a .0) (a .1 .0) (a .1 .1 .0) (now (a .1 .1 .1 .0)) (now (a .1 .1 .1 .1 .0)))
-      (record { sending = z; output = now (e .1 .1 .1 .1 .0) })
+      (record { sending = z; output = now (e .1 .1 .1 .1 .0) }))
   -- the PES reader: a refusal gives its number, zeros and an empty part
-  pub pes : (κs : Lfts 1) (a : Dens κs pes-read-kinds.ps) (z : resT pes-read-kinds.r κs .Denot) (e : AtExit (endedOf 1 pes-read-kinds.ps pes-read-kinds.r) κs)
-      → pes-read-reads.Learnt κs a z e → (pesFault (now (a .0)) ≡ 0 → ⊥) → z ≡ pesRefused (pesFault (now (a .0)))
+  pub pes : Allowed 1 pes-read-kinds.ps pes-read-kinds.r pes-read-reads.Learnt
+      (λ κs a z e. (pesFault (now (a .0)) ≡ 0 → ⊥) → z ≡ pesRefused (pesFault (now (a .0))))
   -- the INT reader: a refusal gives the first of 12 to 18 and 30 to 33 that applies
-  pub notification : (κs : Lfts 1) (a : Dens κs notice-kinds.ps) (z : resT notice-kinds.r κs .Denot) (e : AtExit (endedOf 1 notice-kinds.ps notice-kinds.r) κs)
-      → notice-reads.Learnt κs a z e → (refusal (now (a .1 .0)) ≡ 0 → ⊥) → z ≡ NoticeRefused (refusal (now (a .1 .0)))
+  pub notification : Allowed 1 notice-kinds.ps notice-kinds.r notice-reads.Learnt
+      (λ κs a z e. (refusal (now (a .1 .0)) ≡ 0 → ⊥) → z ≡ NoticeRefused (refusal (now (a .1 .0))))

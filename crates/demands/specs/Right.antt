@@ -3,10 +3,7 @@
 use Prim.Native.Nat.{ℕ}
 use mathlib.Core.Path.{_≡_}
 use mathlib.Core.Logic.{_↔_}
-use contract.Lifetimes.{Lfts}
 use denote.Ref.{now}
-use denote.Triple.Clauses.{AtExit}
-use borrow.Fn.Kinds.{Dens, resT, endedOf}
 use Rattle.rules.specs.declared.Sending.the-variants.{Sent}
 use Rattle.rules.specs.Demand2.{Demand2}
 use Rattle.rules.specs.Send.{defaultPiece}
@@ -14,6 +11,7 @@ use Rattle.notification_rules.specs.declared.Notice.the-variants.{Found}
 use Rattle.notification_rules.specs.Notice.{refusal}
 use Rattle.notification_rules.specs.Right.{FirstAnswer}
 use Rattle.pes_rules.specs.Written.{Bytes, IsWritten}
+use Rattle.demands.specs.Allowed.{Allowed}
 use Rattle.sender.proofs.send.Reads as send-reads
 use Rattle.sender.proofs.send.Kinds as send-kinds
 use Rattle.sender.proofs.send_by_default.Reads as send-by-default-reads
@@ -25,16 +23,14 @@ use Rattle.pes.proofs.read.Kinds as pes-read-kinds
 
 pub record Right : Type 0 where
   -- what `send` has written, given in order to a fresh receiver, gives back the unit
-  pub send : (κs : Lfts 2) (a : Dens κs send-kinds.ps) (z : resT send-kinds.r κs .Denot) (e : AtExit (endedOf 2 send-kinds.ps send-kinds.r) κs)
-      → send-reads.Learnt κs a z e → (n : ℕ) → z ≡ Sent n
-      → Demand2 (a .0) (a .1 .0) (a .1 .1 .0) (now (a .1 .1 .1 .0)) (now (a .1 .1 .1 .1 .0)) n
+  pub send : Allowed 2 send-kinds.ps send-kinds.r send-reads.Learnt
+      (λ κs a z e. (n : ℕ) → z ≡ Sent n → Demand2 (a .0) (a .1 .0) (a .1 .1 .0) (now (a .1 .1 .1 .0)) (now (a .1 .1 .1 .1 .0)) n)
   -- the same where no piece size is given
-  pub send-by-default : (κs : Lfts 2) (a : Dens κs send-by-default-kinds.ps) (z : resT send-by-default-kinds.r κs .Denot)
-      (e : AtExit (endedOf 2 send-by-default-kinds.ps send-by-default-kinds.r) κs) → send-by-default-reads.Learnt κs a z e → (n : ℕ) → z ≡ Sent n
-      → Demand2 (a .0) (a .1 .0) defaultPiece (now (a .1 .1 .0)) (now (a .1 .1 .1 .0)) n
+  pub send-by-default : Allowed 2 send-by-default-kinds.ps send-by-default-kinds.r send-by-default-reads.Learnt
+      (λ κs a z e. (n : ℕ) → z ≡ Sent n → Demand2 (a .0) (a .1 .0) defaultPiece (now (a .1 .1 .0)) (now (a .1 .1 .1 .0)) n)
   -- a device is told a place exactly where the first pair that covers it and has a location has it
-  pub notice : (κs : Lfts 1) (a : Dens κs notice-kinds.ps) (z : resT notice-kinds.r κs .Denot) (e : AtExit (endedOf 1 notice-kinds.ps notice-kinds.r) κs)
-      → notice-reads.Learnt κs a z e → refusal (now (a .1 .0)) ≡ 0 → (p : ℕ) → (z ≡ Found p) ↔ FirstAnswer (a .0) (now (a .1 .0)) p
+  pub notice : Allowed 1 notice-kinds.ps notice-kinds.r notice-reads.Learnt
+      (λ κs a z e. refusal (now (a .1 .0)) ≡ 0 → (p : ℕ) → (z ≡ Found p) ↔ FirstAnswer (a .0) (now (a .1 .0)) p)
   -- a packet that is answered 5 is what table 1 writes for the values read
-  pub pes : (κs : Lfts 1) (a : Dens κs pes-read-kinds.ps) (z : resT pes-read-kinds.r κs .Denot) (e : AtExit (endedOf 1 pes-read-kinds.ps pes-read-kinds.r) κs)
-      → pes-read-reads.Learnt κs a z e → Bytes (now (a .0)) → z .answer ≡ 5 → IsWritten (now (a .0))
+  pub pes : Allowed 1 pes-read-kinds.ps pes-read-kinds.r pes-read-reads.Learnt
+      (λ κs a z e. Bytes (now (a .0)) → z .answer ≡ 5 → IsWritten (now (a .0)))

@@ -3,10 +3,9 @@
 use Prim.Native.Nat.{ℕ}
 use mathlib.Core.Path.{_≡_}
 use mathlib.Core.List.{List}
-use contract.Lifetimes.{Lfts}
 use denote.Ref.{now, ptr}
-use denote.Triple.Clauses.{AtExit}
-use borrow.Fn.Kinds.{PK, RK, Dens, resT, endedOf}
+use borrow.Fn.Kinds.{PK, RK}
+use Rattle.demands.specs.Allowed.{AnyTwo, Contract}
 use Rattle.wire.proofs.copy.Reads as copy-reads
 use Rattle.wire.proofs.copy.Kinds as copy-kinds
 use Rattle.pes.proofs.read.Reads as pes-read-reads
@@ -99,93 +98,90 @@ use Rattle.section.proofs.fault.Kinds as fault-kinds
 use Rattle.section.proofs.check.Reads as check-reads
 use Rattle.section.proofs.check.Kinds as check-kinds
 
--- a contract over n lifetimes, with parameters ps and a result r
-abbrev pub Contract : (n : ℕ) → List (PK n) → RK n → Type 1
-Contract n ps r = (κs : Lfts n) → Dens κs ps → resT r κs .Denot → AtExit (endedOf n ps r) κs → Type 0
-
 abbrev pub OneResult : (n : ℕ) (ps : List (PK n)) (r : RK n) → Contract n ps r → Type 0
-OneResult n ps r Learnt =
-    (κs : Lfts n) (a : Dens κs ps) (z y : resT r κs .Denot) (e d : AtExit (endedOf n ps r) κs) → Learnt κs a z e → Learnt κs a y d → z ≡ y
+OneResult n ps r Learnt = AnyTwo n ps r Learnt (λ κs z y e d. z ≡ y)
 
 -- what `copy` leaves in the slice that it is lent
 abbrev pub CopyTight : Type 0
 CopyTight =
-    (κs : Lfts 2) (a : Dens κs copy-kinds.ps) (z y : resT copy-kinds.r κs .Denot) (e d : AtExit (endedOf 2 copy-kinds.ps copy-kinds.r) κs)
-    → copy-reads.Learnt κs a z e → copy-reads.Learnt κs a y d → now (e .1 .0) ≡ now (d .1 .0)
+    AnyTwo 2 copy-kinds.ps copy-kinds.r copy-reads.Learnt
+    (λ κs z y e d. now (e .1 .0) ≡ now (d .1 .0))
 
 -- what `receive` answers, the state after, and what it leaves in the buffer
 abbrev pub ReceiveTight : Type 0
 ReceiveTight =
-    (κs : Lfts 2) (a : Dens κs receive-kinds.ps) (z y : resT receive-kinds.r κs .Denot)
-    (e d : AtExit (endedOf 2 receive-kinds.ps receive-kinds.r) κs)
-    → receive-reads.Learnt κs a z e → receive-reads.Learnt κs a y d → (z ≡ y) × (now (e .1 .1 .1 .0) ≡ now (d .1 .1 .1 .0))
+    AnyTwo 2 receive-kinds.ps receive-kinds.r receive-reads.Learnt
+    (λ κs z y e d. (z ≡ y) × (now (e .1 .1 .1 .0) ≡ now (d .1 .1 .1 .0)))
 
 -- which part of the packet `data` hands out: its bytes, its block and its place
 abbrev pub DataTight : Type 0
 DataTight =
-    (κs : Lfts 1) (a : Dens κs pes-data-kinds.ps) (z y : resT pes-data-kinds.r κs .Denot) (e d : AtExit (endedOf 1 pes-data-kinds.ps pes-data-kinds.r) κs)
-    → pes-data-reads.Learnt κs a z e → pes-data-reads.Learnt κs a y d → (now z ≡ now y) × (ptr z .0 ≡ ptr y .0) × (ptr z .1 ≡ ptr y .1)
+    AnyTwo 1 pes-data-kinds.ps pes-data-kinds.r pes-data-reads.Learnt
+    (λ κs z y e d. (now z ≡ now y) × (ptr z .0 ≡ ptr y .0) × (ptr z .1 ≡ ptr y .1))
 
 -- the numbers of a state that a foreign caller is given back, the buffer and the length
 abbrev pub ForeignReceiveTight : Type 0
 ForeignReceiveTight =
-    (κs : Lfts 8) (a : Dens κs fossknut-receive-kinds.ps) (z y : resT fossknut-receive-kinds.r κs .Denot)
-    (e d : AtExit (endedOf 8 fossknut-receive-kinds.ps fossknut-receive-kinds.r) κs)
-    → fossknut-receive-reads.Learnt κs a z e → fossknut-receive-reads.Learnt κs a y d
-    → (z ≡ y) × (numbers (now (e .1 .1 .1 .1 .1 .1 .1 .1 .0)) (now (e .1 .1 .1 .1 .1 .1 .1 .1 .1 .0)) (now (e .1 .1 .1 .1 .1 .1 .1 .1 .1 .1 .0)) (now (e .1 .1 .1 .1 .1 .1 .1 .1 .1 .1 .1 .0)) (now (e .1 .1 .1 .1 .1 .1 .1 .1 .1 .1 .1 .1 .0)) ≡ numbers (now (d .1 .1 .1 .1 .1 .1 .1 .1 .0)) (now (d .1 .1 .1 .1 .1 .1 .1 .1 .1 .0)) (now (d .1 .1 .1 .1 .1 .1 .1 .1 .1 .1 .0)) (now (d .1 .1 .1 .1 .1 .1 .1 .1 .1 .1 .1 .0)) (now (d .1 .1 .1 .1 .1 .1 .1 .1 .1 .1 .1 .1 .0)))
-    × (now (e .1 .1 .1 .1 .1 .1 .1 .1 .1 .1 .1 .1 .1 .1 .0) ≡ now (d .1 .1 .1 .1 .1 .1 .1 .1 .1 .1 .1 .1 .1 .1 .0)) × (now (e .1 .1 .1 .1 .1 .1 .1 .1 .1 .1 .1 .1 .1 .1 .1 .0) ≡ now (d .1 .1 .1 .1 .1 .1 .1 .1 .1 .1 .1 .1 .1 .1 .1 .0))
+    AnyTwo 8 fossknut-receive-kinds.ps fossknut-receive-kinds.r fossknut-receive-reads.Learnt
+    (λ κs z y e d. (z ≡ y)
+    × (numbers (now (e .1 .1 .1 .1 .1 .1 .1 .1 .0)) (now (e .1 .1 .1 .1 .1 .1 .1 .1 .1 .0)) (now (e .1 .1 .1 .1 .1 .1 .1 .1 .1 .1 .0)) (now (e .1 .1 .1 .1 .1 .1 .1 .1 .1 .1 .1 .0)) (now (e .1 .1 .1 .1 .1 .1 .1 .1 .1 .1 .1 .1 .0)) ≡ numbers (now (d .1 .1 .1 .1 .1 .1 .1 .1 .0)) (now (d .1 .1 .1 .1 .1 .1 .1 .1 .1 .0)) (now (d .1 .1 .1 .1 .1 .1 .1 .1 .1 .1 .0)) (now (d .1 .1 .1 .1 .1 .1 .1 .1 .1 .1 .1 .0)) (now (d .1 .1 .1 .1 .1 .1 .1 .1 .1 .1 .1 .1 .0)))
+    × (now (e .1 .1 .1 .1 .1 .1 .1 .1 .1 .1 .1 .1 .1 .1 .0) ≡ now (d .1 .1 .1 .1 .1 .1 .1 .1 .1 .1 .1 .1 .1 .1 .0))
+    × (now (e .1 .1 .1 .1 .1 .1 .1 .1 .1 .1 .1 .1 .1 .1 .1 .0) ≡ now (d .1 .1 .1 .1 .1 .1 .1 .1 .1 .1 .1 .1 .1 .1 .1 .0)))
 
 abbrev pub ForeignGapTight : Type 0
 ForeignGapTight =
-    (κs : Lfts 5) (a : Dens κs fossknut-gap-kinds.ps) (z y : resT fossknut-gap-kinds.r κs .Denot)
-    (e d : AtExit (endedOf 5 fossknut-gap-kinds.ps fossknut-gap-kinds.r) κs)
-    → fossknut-gap-reads.Learnt κs a z e → fossknut-gap-reads.Learnt κs a y d
-    → numbers (now (e .0)) (now (e .1 .0)) (now (e .1 .1 .0)) (now (e .1 .1 .1 .0)) (now (e .1 .1 .1 .1 .0)) ≡ numbers (now (d .0)) (now (d .1 .0)) (now (d .1 .1 .0)) (now (d .1 .1 .1 .0)) (now (d .1 .1 .1 .1 .0))
+    AnyTwo 5 fossknut-gap-kinds.ps fossknut-gap-kinds.r fossknut-gap-reads.Learnt
+    (λ κs z y e d. numbers (now (e .0)) (now (e .1 .0)) (now (e .1 .1 .0)) (now (e .1 .1 .1 .0)) (now (e .1 .1 .1 .1 .0)) ≡ numbers (now (d .0)) (now (d .1 .0)) (now (d .1 .1 .0)) (now (d .1 .1 .1 .0)) (now (d .1 .1 .1 .1 .0)))
 
 -- what `send` answers, and what it leaves in the output; the same where no piece size is given
 abbrev pub SendTight : Type 0
 SendTight =
-    (κs : Lfts 2) (a : Dens κs send-kinds.ps) (z y : resT send-kinds.r κs .Denot) (e d : AtExit (endedOf 2 send-kinds.ps send-kinds.r) κs)
-    → send-reads.Learnt κs a z e → send-reads.Learnt κs a y d → (z ≡ y) × (now (e .1 .1 .1 .1 .0) ≡ now (d .1 .1 .1 .1 .0))
+    AnyTwo 2 send-kinds.ps send-kinds.r send-reads.Learnt
+    (λ κs z y e d. (z ≡ y) × (now (e .1 .1 .1 .1 .0) ≡ now (d .1 .1 .1 .1 .0)))
 
 abbrev pub SendByDefaultTight : Type 0
 SendByDefaultTight =
-    (κs : Lfts 2) (a : Dens κs send-by-default-kinds.ps) (z y : resT send-by-default-kinds.r κs .Denot) (e d : AtExit (endedOf 2 send-by-default-kinds.ps send-by-default-kinds.r) κs)
-    → send-by-default-reads.Learnt κs a z e → send-by-default-reads.Learnt κs a y d → (z ≡ y) × (now (e .1 .1 .1 .0) ≡ now (d .1 .1 .1 .0))
+    AnyTwo 2 send-by-default-kinds.ps send-by-default-kinds.r send-by-default-reads.Learnt
+    (λ κs z y e d. (z ≡ y) × (now (e .1 .1 .1 .0) ≡ now (d .1 .1 .1 .0)))
 
 -- the same for a foreign caller, with the length
 abbrev pub ForeignSendTight : Type 0
 ForeignSendTight =
-    (κs : Lfts 3) (a : Dens κs fossknut-send-kinds.ps) (z y : resT fossknut-send-kinds.r κs .Denot) (e d : AtExit (endedOf 3 fossknut-send-kinds.ps fossknut-send-kinds.r) κs)
-    → fossknut-send-reads.Learnt κs a z e → fossknut-send-reads.Learnt κs a y d → (z ≡ y) × (now (e .1 .1 .1 .1 .1 .1 .1 .1 .1 .1 .1 .0) ≡ now (d .1 .1 .1 .1 .1 .1 .1 .1 .1 .1 .1 .0)) × (now (e .1 .1 .1 .1 .1 .1 .1 .1 .1 .1 .1 .1 .0) ≡ now (d .1 .1 .1 .1 .1 .1 .1 .1 .1 .1 .1 .1 .0))
+    AnyTwo 3 fossknut-send-kinds.ps fossknut-send-kinds.r fossknut-send-reads.Learnt
+    (λ κs z y e d. (z ≡ y)
+    × (now (e .1 .1 .1 .1 .1 .1 .1 .1 .1 .1 .1 .0) ≡ now (d .1 .1 .1 .1 .1 .1 .1 .1 .1 .1 .1 .0))
+    × (now (e .1 .1 .1 .1 .1 .1 .1 .1 .1 .1 .1 .1 .0) ≡ now (d .1 .1 .1 .1 .1 .1 .1 .1 .1 .1 .1 .1 .0)))
 
 abbrev pub ForeignSendByDefaultTight : Type 0
 ForeignSendByDefaultTight =
-    (κs : Lfts 3) (a : Dens κs fossknut-send-by-default-kinds.ps) (z y : resT fossknut-send-by-default-kinds.r κs .Denot) (e d : AtExit (endedOf 3 fossknut-send-by-default-kinds.ps fossknut-send-by-default-kinds.r) κs)
-    → fossknut-send-by-default-reads.Learnt κs a z e → fossknut-send-by-default-reads.Learnt κs a y d → (z ≡ y) × (now (e .1 .1 .1 .1 .1 .1 .1 .1 .1 .1 .0) ≡ now (d .1 .1 .1 .1 .1 .1 .1 .1 .1 .1 .0)) × (now (e .1 .1 .1 .1 .1 .1 .1 .1 .1 .1 .1 .0) ≡ now (d .1 .1 .1 .1 .1 .1 .1 .1 .1 .1 .1 .0))
+    AnyTwo 3 fossknut-send-by-default-kinds.ps fossknut-send-by-default-kinds.r fossknut-send-by-default-reads.Learnt
+    (λ κs z y e d. (z ≡ y)
+    × (now (e .1 .1 .1 .1 .1 .1 .1 .1 .1 .1 .0) ≡ now (d .1 .1 .1 .1 .1 .1 .1 .1 .1 .1 .0))
+    × (now (e .1 .1 .1 .1 .1 .1 .1 .1 .1 .1 .1 .0) ≡ now (d .1 .1 .1 .1 .1 .1 .1 .1 .1 .1 .1 .0)))
 
 -- each number that the PES reader writes for a foreign caller
 abbrev pub ForeignPesTight : Type 0
 ForeignPesTight =
-    (κs : Lfts 7) (a : Dens κs fossknut-pes-kinds.ps) (z y : resT fossknut-pes-kinds.r κs .Denot) (e d : AtExit (endedOf 7 fossknut-pes-kinds.ps fossknut-pes-kinds.r) κs)
-    → fossknut-pes-reads.Learnt κs a z e → fossknut-pes-reads.Learnt κs a y d
-    → (z ≡ y) × (now (e .1 .0) ≡ now (d .1 .0)) × (now (e .1 .1 .0) ≡ now (d .1 .1 .0)) × (now (e .1 .1 .1 .0) ≡ now (d .1 .1 .1 .0)) × (now (e .1 .1 .1 .1 .0) ≡ now (d .1 .1 .1 .1 .0)) × (now (e .1 .1 .1 .1 .1 .0) ≡ now (d .1 .1 .1 .1 .1 .0)) × (now (e .1 .1 .1 .1 .1 .1 .0) ≡ now (d .1 .1 .1 .1 .1 .1 .0))
+    AnyTwo 7 fossknut-pes-kinds.ps fossknut-pes-kinds.r fossknut-pes-reads.Learnt
+    (λ κs z y e d. (z ≡ y)
+    × (now (e .1 .0) ≡ now (d .1 .0))
+    × (now (e .1 .1 .0) ≡ now (d .1 .1 .0))
+    × (now (e .1 .1 .1 .0) ≡ now (d .1 .1 .1 .0))
+    × (now (e .1 .1 .1 .1 .0) ≡ now (d .1 .1 .1 .1 .0))
+    × (now (e .1 .1 .1 .1 .1 .0) ≡ now (d .1 .1 .1 .1 .1 .0))
+    × (now (e .1 .1 .1 .1 .1 .1 .0) ≡ now (d .1 .1 .1 .1 .1 .1 .0)))
 
 -- the answer of the INT reader, and which part of the section it hands out
 abbrev pub NotificationTight : Type 0
 NotificationTight =
-    (κs : Lfts 2) (a : Dens κs notification-read-kinds.ps) (z y : resT notification-read-kinds.r κs .Denot)
-    (e d : AtExit (endedOf 2 notification-read-kinds.ps notification-read-kinds.r) κs)
-    → notification-read-reads.Learnt κs a z e → notification-read-reads.Learnt κs a y d
-    → (now (e .1 .1 .0) ≡ now (d .1 .1 .0)) × (now z ≡ now y) × (ptr z .0 ≡ ptr y .0) × (ptr z .1 ≡ ptr y .1)
+    AnyTwo 2 notification-read-kinds.ps notification-read-kinds.r notification-read-reads.Learnt
+    (λ κs z y e d. (now (e .1 .1 .0) ≡ now (d .1 .1 .0)) × (now z ≡ now y) × (ptr z .0 ≡ ptr y .0) × (ptr z .1 ≡ ptr y .1))
 
 -- number and place for a foreign caller
 abbrev pub ForeignNotificationTight : Type 0
 ForeignNotificationTight =
-    (κs : Lfts 2) (a : Dens κs fossknut-notification-kinds.ps) (z y : resT fossknut-notification-kinds.r κs .Denot)
-    (e d : AtExit (endedOf 2 fossknut-notification-kinds.ps fossknut-notification-kinds.r) κs)
-    → fossknut-notification-reads.Learnt κs a z e → fossknut-notification-reads.Learnt κs a y d
-    → (z ≡ y) × (now (e .1 .1 .1 .1 .1 .1 .1 .0) ≡ now (d .1 .1 .1 .1 .1 .1 .1 .0))
+    AnyTwo 2 fossknut-notification-kinds.ps fossknut-notification-kinds.r fossknut-notification-reads.Learnt
+    (λ κs z y e d. (z ≡ y) × (now (e .1 .1 .1 .1 .1 .1 .1 .0) ≡ now (d .1 .1 .1 .1 .1 .1 .1 .0)))
 
 pub record Tight : Type 0 where
   -- wire
