@@ -8,8 +8,8 @@ use Rattle.crc.proofs.Basis.{onesBefore, onesAfter}
 use Rattle.crc.proofs.Clear.{tail}
 use Rattle.crc.proofs.Bytes.{short-law, long-law}
 use borrow.Author.Needs.{needs}
-use Rattle.crc.proofs.crc_32.Statement.{statement}
-use Rattle.crc.proofs.crc_32.Tie as tie
+use Rattle.crc.proofs.register.Statement.{statement}
+use Rattle.crc.proofs.register.Tie as tie
 
 read-requires : tie.Need-read-requires
 read-requires c κs = search needs
@@ -61,8 +61,8 @@ returns-2 c =
     long-law (length s % 8) (omega arith) s (omega (arith, c .before .before .if1 .left)) refl
     (c .before .before .before .read .ensures) (c .by-far .ensures ∙ ap (crcAfter _ _) (tail (length s % 8) s))
 
-pub crc-32-spec : {M : Type 1} → statement M
-crc-32-spec =
+pub register-spec : {M : Type 1} → statement M
+register-spec =
     tie.close
     (tie.spec
     read-requires
