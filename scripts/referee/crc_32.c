@@ -18,34 +18,37 @@ static uint32_t ucsi(uint8_t *bytes, size_t length) { return crc32(CRC32_INIT, b
 /* It writes CRC_32 behind the bytes, too. */
 static uint32_t dvbpsi(uint8_t *bytes, size_t length)
 {
-	dvbpsi_psi_section_t section = { .b_syntax_indicator = true, .p_data = bytes, .p_payload_end = bytes + length };
-	dvbpsi_CalculateCRC32(&section);
-	return section.i_crc;
+    dvbpsi_psi_section_t section = { .b_syntax_indicator = true, .p_data = bytes, .p_payload_end = bytes + length };
+    dvbpsi_CalculateCRC32(&section);
+    return section.i_crc;
 }
 
 static uint32_t of_file(const char *name, uint32_t (*crc_32)(uint8_t *, size_t))
 {
-	static uint8_t bytes[2 << 20];
-	FILE *file = fopen(name, "rb");
-	if (!file) {
-		perror(name);
-		exit(1);
-	}
-	size_t length = fread(bytes, 1, sizeof bytes - 4, file);
-	fclose(file);
-	return crc_32(bytes, length);
+    static uint8_t bytes[2 << 20];
+    FILE *file = fopen(name, "rb");
+    if (!file) {
+        perror(name);
+        exit(1);
+    }
+    size_t length = fread(bytes, 1, sizeof bytes - 4, file);
+    fclose(file);
+    return crc_32(bytes, length);
 }
 
 int main(int count, char **words)
 {
-	const char *library = count > 1 ? words[1] : "";
-	uint32_t (*crc_32)(uint8_t *, size_t) = !strcmp(library, "libisal")    ? isal
-	                                        : !strcmp(library, "libucsi")   ? ucsi
-	                                        : !strcmp(library, "libdvbpsi") ? dvbpsi
-	                                                                        : NULL;
-	if (!crc_32)
-		return 2;
-	for (int i = 2; i < count; i++)
-		printf("%08X %s\n", of_file(words[i], crc_32), words[i]);
-	return 0;
+    uint32_t (*crc_32)(uint8_t *, size_t) = NULL;
+    const char *library = count > 1 ? words[1] : "";
+    if (!strcmp(library, "libisal"))
+        crc_32 = isal;
+    else if (!strcmp(library, "libucsi"))
+        crc_32 = ucsi;
+    else if (!strcmp(library, "libdvbpsi"))
+        crc_32 = dvbpsi;
+    else
+        return 2;
+    for (int i = 2; i < count; i++)
+        printf("%08X %s\n", of_file(words[i], crc_32), words[i]);
+    return 0;
 }

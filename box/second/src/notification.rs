@@ -234,7 +234,7 @@ fn location(descriptors: &Loop) -> Option<usize> {
 #[cfg(test)]
 mod tests {
     use super::*;
-    use crate::generator::notifications::{any_notification, faulty, CHECKS};
+    use crate::generator::notifications::{any_notification, faulty, with_loops, CHECKS};
     use crate::generator::subsets;
     use crate::random::Random;
     use crate::telling::notifications;
@@ -261,6 +261,20 @@ mod tests {
                 }
             }
         }
+    }
+
+    #[test]
+    fn fields_are_told_of_sections_that_are_answered() {
+        let loops: [&[u8]; 3] = [b"", b"\x80\x00\x07\x06\0\0\0\0\0\0", b"\x13\x09location!"];
+        let section = with_loops(&loops.map(<[u8]>::to_vec));
+        assert_eq!(
+            fields(&section).as_deref(),
+            Some(
+                "action_type 01 platform_id_hash 07 platform_id 010204 processing_order 00 \
+                 platform 0: target 10: 80/0 07/6 operational 11: 13/9"
+            )
+        );
+        assert_eq!(fields(&section[1..]), None);
     }
 
     #[test]
