@@ -36,7 +36,7 @@ static void collect_pair(struct dvb_int_target *pair)
     COLLECT(operational, behind, operational_descriptors_length, dvb_int_operational_loop_operational_descriptors_for_each);
 }
 
-/* libucsi takes some sections in which a loop runs into the CRC_32; 01 takes none (docs/DECISIONS.md, 40). */
+/* libucsi takes some sections in which a loop runs into the CRC_32; 01 takes none (docs/DECISIONS.md). */
 static bool filled(struct dvb_int_section *in)
 {
     uint8_t *end = (uint8_t *) in + sizeof *in + in->platform_descriptors_length;
