@@ -14,7 +14,8 @@ use Rattle.wire.proofs.Choice.{never}
 use Rattle.rules.specs.declared.Address.{Address}
 use Rattle.notification_rules.specs.declared.Notice.{Notice}
 use Rattle.notification_rules.specs.declared.Notice.the-variants.{Found, Nobody, Refused}
-use Rattle.notification_rules.specs.Cut.{Cut, cutOf, stop, more, isNil, odd, Part, part, placed, Is}
+use Rattle.wire.specs.Part.{Part, part, Is}
+use Rattle.notification_rules.specs.Cut.{Cut, cutOf, stop, more, isNil, odd, placed}
 use Rattle.notification_rules.specs.Loop.{loopSize, checked, loopCut, loopsOf, content, descriptorPieces, descriptorsOf, Pair}
 use Rattle.notification_rules.specs.Target.{isCover, coverOf, Location, nowhere, at, located, isLocation, orElse, locationOf, answers, one, firstPair}
 use Rattle.notification_rules.specs.Notice.{refusal, fits, found, chosen, searched, noticeOf, noticeNumber, partOf, Answered}

@@ -14,7 +14,8 @@ use Rattle.wire.specs.Bytes.{byteAt}
 use Rattle.wire.specs.Choice.{pick, both, either}
 use Rattle.wire.proofs.Choice.{never}
 use Rattle.rules.specs.declared.Address.{Address}
-use Rattle.notification_rules.specs.Cut.{Cut, cutOf, stop, more, isNil, any, odd, part, placed}
+use Rattle.wire.specs.Part.{part}
+use Rattle.notification_rules.specs.Cut.{Cut, cutOf, stop, more, isNil, any, odd, placed}
 use Rattle.notification_rules.specs.Loop.{loopSize, descriptorSize, content, Pair, pairsOf, descriptorsOf, descriptorPieces}
 use Rattle.notification_rules.specs.Target.{Location, nowhere, at, located, isLocation, Cover, isCover, coverOf, covers, hit, entrySize, entryBytes, none, one, firstPair}
 use Rattle.notification_rules.proofs.Cuts.{from, nil-true, nil-false, nil-length}

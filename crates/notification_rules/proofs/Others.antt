@@ -7,7 +7,8 @@ use lib.Dec.{eqb}
 use borrow.Author.Tests.{ne-eqb}
 use Rattle.wire.specs.Choice.{pick}
 use Rattle.rules.specs.declared.Address.{Address}
-use Rattle.notification_rules.specs.Cut.{Cut, cutOf, any, Part}
+use Rattle.wire.specs.Part.{Part}
+use Rattle.notification_rules.specs.Cut.{Cut, cutOf, any}
 use Rattle.notification_rules.specs.Loop.{tag, descriptorsOf}
 use Rattle.notification_rules.specs.Target.{macAddress, macAddressRange, entrySize, entryBytes, hit, covers, nobody, coverFrom, coverOf}
 use Rattle.notification_rules.specs.Right.{OthersCoverNobody}

@@ -11,7 +11,8 @@ use Rattle.wire.specs.Choice.{pick, both}
 use Rattle.wire.proofs.Choice.{never}
 use Rattle.wire.specs.Bytes.{byteAt}
 use Rattle.rules.specs.declared.Address.{Address}
-use Rattle.notification_rules.specs.Cut.{Size, Cut, stop, more, cutOf, isNil, every, any, part, placed}
+use Rattle.wire.specs.Part.{part}
+use Rattle.notification_rules.specs.Cut.{Size, Cut, stop, more, cutOf, isNil, every, any, placed}
 use Rattle.notification_rules.specs.Loop.{loopSize, descriptorSize, filled, tag, bodyLength, descriptorPieces}
 use Rattle.notification_rules.specs.Target.{rightLength, streamLocation, Location, nowhere, at, located, isLocation, Cover, by, coverFrom, isCover, covers, entrySize}
 use Rattle.notification_rules.specs.Notice.{known}
