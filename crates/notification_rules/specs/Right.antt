@@ -1,7 +1,7 @@
 -- What is right about the rules: theorems, shown in proofs/.
 use Prim.Native.Nat.{ℕ, _+_, _≤_}
 use mathlib.Core.Path.{_≡_}
-use mathlib.Core.Bool.{Bool, true, false, not}
+use mathlib.Core.Bool.{true, false, not}
 use mathlib.Core.List.{List, [], _∷_, _++_, List·Memᴰ, flatten, map}
 use mathlib.Core.Logic.{_⊎_, _↔_}
 use lib.ListN.{length}

@@ -6,7 +6,7 @@ use mathlib.Core.Bool.{Bool, false, not}
 use lib.ListN.{length}
 use lib.Seq.{slice}
 use lib.Dec.{eqb, ltb}
-use Rattle.wire.specs.Bytes.{byteAt, bit, bits, numberAt}
+use Rattle.wire.specs.Bytes.{byteAt, bit, numberAt}
 use Rattle.wire.specs.Choice.{pick, both, either, Line, line, firstOf}
 use Rattle.wire.specs.Part.{Part, part}
 use Rattle.pes_rules.specs.declared.Reading.{Reading}
