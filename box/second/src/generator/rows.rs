@@ -188,3 +188,33 @@ pub fn any_state(random: &mut Random) -> Run {
         flag: random.one_in(2),
     }
 }
+
+/// A section that goes on with the run, or nearly, with a payload of that length.
+pub fn nearly_continuing(
+    random: &mut Random,
+    settings: &Settings,
+    run: &Run,
+    payload_length: usize,
+) -> Vec<u8> {
+    let mut address = settings.address;
+    if random.one_in(8) {
+        address[random.below(6)] ^= 1;
+    }
+    let payload = random.repeated(payload_length);
+    let mut section = sound(address, run.next as u8, run.last as u8, &payload);
+    section[5] |= u8::from(run.flag) << 1;
+    match random.below(16) {
+        0 => section[5] ^= 2,
+        1 => section[5] ^= 0x10,
+        2 => section[6] = 0,
+        3 => section[7] = section[6],
+        4 => section[6] = section[6].wrapping_add(1),
+        5 => {
+            let fault = random.pick(&CHECKS);
+            return faulty(random, &[fault]);
+        }
+        _ => {}
+    }
+    seal(&mut section);
+    section
+}
