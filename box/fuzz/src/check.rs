@@ -38,7 +38,7 @@ impl Compare for Check {
     fn compare(section: &Vec<u8>, memory: &mut Memory, tally: &mut Tally) {
         let checked = memory.call(section, fossknut::check);
         let number = checked.map_or_else(Refusal::number, |()| 0);
-        same("number", number, second::check(section));
+        same("as number", number, second::check(section));
         tally.count(number);
     }
 }

@@ -22,7 +22,7 @@ impl Compare for Crc32 {
 
     fn compare(bytes: &Vec<u8>, memory: &mut Memory, tally: &mut Tally) {
         let crc_32 = memory.call(bytes, fossknut::crc_32);
-        same("CRC_32", crc_32, second::crc_32(bytes));
+        same("as CRC_32", crc_32, second::crc_32(bytes));
         tally.count(0);
     }
 }

@@ -4,7 +4,7 @@
 
 mod check;
 mod crc_32;
-// Files of the wrapper and of its tests: what these keep for themselves is called here, too.
+// The wrapper's file and two of its tests': what they keep for themselves is called here, too.
 #[allow(dead_code)]
 #[path = "../../fossknut/src/ffi.rs"]
 mod ffi;
@@ -17,71 +17,47 @@ mod notification;
 mod numbers;
 mod pes;
 mod receive;
-mod report;
 mod run;
 mod send;
 mod target;
 
-use std::env::{args, var};
+use std::env::args;
 use std::fs::File;
 use std::process::ExitCode;
 use std::time::Duration;
 
-// For the wrapper's file.
-use fossknut::Settings;
+use fossknut::Settings; // for the wrapper's file
 use run::Run;
+use target::every_answer;
 
-const USAGE: &str = "usage: SEED=.. [CASE=..] fuzz SECONDS FILE
-It writes to FILE, 8 bytes a thread, the number of each case before it begins.";
+/// The shortest run that has to reach every answer, in seconds.
+const EVERY_ANSWER: u64 = 60;
 
-/// The shortest run that has to reach every answer.
-const EVERY_ANSWER: Duration = Duration::from_secs(60);
-
+/// By the words SECONDS, FILE, SEED and, for a single one, CASE; FILE gets the number of each case
+/// before it begins, 8 bytes a thread.
 fn main() -> ExitCode {
-    match from_words() {
-        None => {
-            eprintln!("{USAGE}");
-            ExitCode::from(2)
-        }
-        Some(run) if fuzz(&run) => ExitCode::SUCCESS,
-        Some(_) => ExitCode::FAILURE,
-    }
-}
-
-fn from_words() -> Option<Run> {
-    let words: Vec<String> = args().skip(1).collect();
-    let seconds = words.get(0)?.parse().ok()?;
-    let cases = match var("CASE") {
-        Ok(case) => case.parse().ok().map(|case| case..case + 1)?,
-        Err(_) => 0..u64::MAX,
+    let words: Vec<String> = args().collect();
+    let number = |place: usize| words[place].parse::<u64>().expect("a number");
+    let (seconds, seed, is_single) = (number(1), number(3), words.len() > 4);
+    let cases = if is_single {
+        number(4)..number(4) + 1
+    } else {
+        0..u64::MAX
     };
-    Some(Run::new(
-        var("SEED").ok()?.parse().ok()?,
-        cases,
-        Duration::from_secs(seconds),
-        File::create(words.get(1)?).ok()?,
-    ))
-}
-
-/// Whether both programs agreed, and every answer was reached in a run that is long enough.
-fn fuzz(run: &Run) -> bool {
-    println!("fuzz: seed {}", run.seed);
-    let tallies = run.on_all_processors();
-    report::print(&tallies);
-    let all = run.is_single() || run.time < EVERY_ANSWER || report::every_answer(&tallies);
-    all && run.agreed()
-}
-
-#[cfg(test)]
-mod tests {
-    use super::*;
-
-    /// As many cases as reach every answer.
-    #[test]
-    fn the_first_cases() {
-        let file = File::create("/dev/null").expect("a file that takes all");
-        let run = Run::new(1, 0..30_000, Duration::from_secs(600), file);
-        let tallies = run.on_all_processors();
-        assert!(run.agreed() && report::every_answer(&tallies));
+    let begun = File::create(&words[2]).expect("a file to write to");
+    println!("fuzz: seed {seed}");
+    let tallies = Run::new(seed, cases, begun).on_all_processors(Duration::from_secs(seconds));
+    target::print(&tallies);
+    if seconds < EVERY_ANSWER || is_single || every_answer(&tallies) {
+        ExitCode::SUCCESS
+    } else {
+        ExitCode::FAILURE
     }
+}
+
+#[test]
+fn the_first_cases_reach_every_answer() {
+    let begun = File::create("/dev/null").expect("a file that takes all");
+    let run = Run::new(1, 0..30_000, begun);
+    assert!(every_answer(&run.on_all_processors(Duration::MAX / 2)));
 }

@@ -1,34 +1,37 @@
-//! Where slices and buffers stand that are lent to the library.
+//! Where the slices and buffers stand that are lent to the library.
 
 use std::fmt::Debug;
-use std::ops::Range;
 
 use second::random::Random;
 
 use crate::guarded::Guarded;
 
-/// Bytes on either side of a buffer that have to stay as they are.
+/// At how many places, and so alignments, they may begin.
+const PLACES: usize = 32;
+/// How many bytes on either side of a buffer are watched, at least.
 const MARGIN: usize = 64;
+/// What stands there.
+static OTHERS: &[u8; MARGIN + PLACES] =
+    b"Bytes on either side of a buffer that is lent to the library have to stay as they are, all 96...";
 
-/// Memory for the slices that are only read, and the place at which a case begins those that it
-/// lends.
+/// Memory for the slices that are only read, and the place of a case.
 pub struct Memory {
     guarded: Guarded,
-    /// At the guarded end where there is none.
+    /// Without one a slice stands at the guarded end.
     place: Option<usize>,
 }
 
 impl Memory {
     pub fn new() -> Self {
+        let guarded = Guarded::new();
         Self {
-            guarded: Guarded::new(),
+            guarded,
             place: None,
         }
     }
 
-    /// Another place, of any alignment.
     pub fn place_anew(&mut self, random: &mut Random) {
-        self.place = (!random.one_in(3)).then(|| random.below(32));
+        self.place = (!random.one_in(3)).then(|| random.below(PLACES));
     }
 
     /// What `call` gives for a copy of `bytes`, which it has to leave as it is.
@@ -44,48 +47,39 @@ impl Memory {
 
     /// A buffer with these bytes.
     pub fn buffer(&self, bytes: &[u8]) -> Buffer {
-        let start = MARGIN + self.place.unwrap_or(0);
-        Buffer {
-            area: framed(start, bytes),
-            place: start..start + bytes.len(),
-        }
+        let before = MARGIN + self.place.unwrap_or(0);
+        let area = framed(before, bytes);
+        Buffer { area, before }
     }
+}
+
+fn framed(before: usize, bytes: &[u8]) -> Vec<u8> {
+    [&OTHERS[..before], bytes, &OTHERS[..MARGIN]].concat()
 }
 
 /// A buffer in the midst of bytes that are not lent.
 pub struct Buffer {
     area: Vec<u8>,
-    place: Range<usize>,
+    before: usize,
 }
 
 impl Buffer {
     pub fn lend(&mut self) -> &mut [u8] {
-        &mut self.area[self.place.clone()]
+        let end = self.area.len() - MARGIN;
+        &mut self.area[self.before..end]
     }
 
-    /// Nothing but these bytes is in the buffer, and those on either side are as they were.
+    /// All of it is as in the second program, and the bytes on either side are as they were.
     pub fn expect(&self, second: &[u8]) {
-        let expected = framed(self.place.start, second);
-        assert_eq!(self.area.len(), expected.len(), "the buffer's length");
-        if let Some(place) = (0..expected.len()).find(|&at| self.area[at] != expected[at]) {
-            let end = expected.len().min(place + 16);
-            let at = place as isize - self.place.start as isize;
-            same(
-                &format!("bytes from {at} of the buffer of {}", second.len()),
-                &self.area[place..end],
-                &expected[place..end],
-            );
+        let expected = framed(self.before, second);
+        if self.area != expected {
+            let mut pairs = self.area.iter().zip(&expected);
+            let first = pairs.position(|(one, other)| one != other).unwrap_or(0);
+            let place = first as isize - self.before as isize;
+            let what = format!("from byte {place} of {} in the buffer", second.len());
+            same(&what, &self.area[first..], &expected[first..]);
         }
     }
-}
-
-/// `bytes` behind `before` others, and with [`MARGIN`] more behind them.
-fn framed(before: usize, bytes: &[u8]) -> Vec<u8> {
-    let others = |length: usize| (0..length).map(|at| at as u8 ^ 0xA5);
-    let mut framed: Vec<u8> = others(before).collect();
-    framed.extend(bytes);
-    framed.extend(others(MARGIN));
-    framed
 }
 
 /// Both programs have given the same.
@@ -93,6 +87,6 @@ fn framed(before: usize, bytes: &[u8]) -> Vec<u8> {
 pub fn same<T: PartialEq + Debug>(what: &str, library: T, second: T) {
     assert!(
         library == second,
-        "{what}: the library gave {library:02X?}, the second program {second:02X?}"
+        "{what} the library gave {library:02X?}, the second program {second:02X?}"
     );
 }

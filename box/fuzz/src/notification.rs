@@ -42,7 +42,7 @@ impl Compare for Notification {
         let answer = memory.call(section, |section| ffi::notification(*device, section));
         let expected = second::notification::read(*device, section);
         same(
-            "number and place",
+            "as number and place",
             answer,
             (expected.number, expected.place),
         );
@@ -53,7 +53,7 @@ impl Compare for Notification {
             (4, _) => Ok(None),
             (number, _) => Err(number),
         };
-        same("the wrapper's answer", wrapped, expected);
+        same("as the wrapper's answer", wrapped, expected);
         tally.count(answer.0);
     }
 }

@@ -30,14 +30,14 @@ impl Compare for Pes {
     fn compare(packet: &Vec<u8>, memory: &mut Memory, tally: &mut Tally) {
         let answer = memory.call(packet, ffi::pes);
         let second = second::pes::read(packet);
-        same("answer", answer, numbers::pes(&second));
+        same("as answer", answer, numbers::pes(&second));
         let expected = second.map(|second| Packet {
             extension: second.extension,
             rate: second.rate,
             data: &packet[second.data],
         });
         let wrapped = pes::read(packet).map_err(Refusal::number);
-        same("the wrapper's answer", wrapped, expected);
+        same("as the wrapper's answer", wrapped, expected);
         tally.count(answer.0);
     }
 }

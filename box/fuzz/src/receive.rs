@@ -1,10 +1,9 @@
 //! The receiver: rows of sections and gap notices, the state handed on.
 
-use fossknut::Answer;
 use second::generator::mutated;
 use second::generator::rows::{any_row, any_state, bad_settings, good_settings, nearly_continuing};
 use second::random::Random;
-use second::receiver::{room, Receiver, Run, Settings};
+use second::receiver::{room, Answer, Receiver, Run};
 use second::row::{whole_runs, Event};
 use second::tally::Tally;
 
@@ -15,31 +14,12 @@ use crate::target::Compare;
 
 pub struct Receive;
 
-/// What a receiver starts with, and what it is given.
+/// What a receiver starts with, its state also in numbers, and what it is given.
 #[derive(Debug)]
 pub struct Row {
-    settings: Settings,
-    start: State,
-    buffer: Vec<u8>,
+    start: Receiver,
+    state: State,
     events: Vec<Event>,
-}
-
-impl Row {
-    /// The second program's receiver at the row's start.
-    fn second(&self) -> Receiver {
-        let State { open, flag, .. } = self.start;
-        let run = Run {
-            next: self.start.next,
-            last: self.start.last,
-            filled: self.start.filled,
-            flag: flag != 0,
-        };
-        Receiver {
-            settings: self.settings,
-            state: (open != 0).then_some(run),
-            buffer: self.buffer.clone(),
-        }
-    }
 }
 
 impl Compare for Receive {
@@ -49,9 +29,8 @@ impl Compare for Receive {
         if random.one_in(2) {
             let row = any_row(random);
             return Row {
-                settings: row.settings,
-                start: State::default(),
-                buffer: random.repeated(row.buffer_length),
+                start: Receiver::new(row.settings, random.repeated(row.buffer_length)),
+                state: State::default(),
                 events: row.events,
             };
         }
@@ -59,23 +38,32 @@ impl Compare for Receive {
             0 => bad_settings(random),
             _ => good_settings(random),
         };
-        let start = any_start(random);
-        let buffer_length = any_buffer_length(random, start.filled);
-        let mut row = Row {
-            settings,
-            start,
-            buffer: random.repeated(buffer_length),
-            events: Vec::new(),
+        let run = any_state(random);
+        // READINGS A12: any number but 0 is a 1; what else an idle state has does not matter.
+        let state = State {
+            open: random.pick(&[0, 0, 1, 2, 255]),
+            flag: u8::from(run.flag) * random.pick(&[1, 2, 255]),
+            ..numbers::state(Some(run))
         };
-        row.events = nearly_a_run(random, row.second());
-        row
+        let buffer_length = any_buffer_length(random, run.filled);
+        let start = Receiver {
+            settings,
+            state: (state.open != 0).then_some(run),
+            buffer: random.repeated(buffer_length),
+        };
+        let events = nearly_runs(random, start.clone());
+        Row {
+            start,
+            state,
+            events,
+        }
     }
 
     fn compare(row: &Row, memory: &mut Memory, tally: &mut Tally) {
-        let settings = numbers::settings(&row.settings);
-        let mut state = row.start;
-        let mut buffer = memory.buffer(&row.buffer);
-        let mut second = row.second();
+        let settings = numbers::settings(&row.start.settings);
+        let mut state = row.state;
+        let mut buffer = memory.buffer(&row.start.buffer);
+        let mut second = row.start.clone();
         for event in &row.events {
             match event {
                 Event::Gap => {
@@ -86,71 +74,44 @@ impl Compare for Receive {
                     let answer = memory.call(bytes, |section| {
                         ffi::receive(&settings, &mut state, section, buffer.lend())
                     });
-                    let expected = second.receive(bytes);
-                    same(
-                        "number and length",
-                        answer,
-                        (expected.number, expected.length),
-                    );
-                    tally.count(answer.0);
+                    let Answer { number, length } = second.receive(bytes);
+                    same("as number and length", answer, (number, length));
+                    tally.count(number);
                 }
             }
-            same("state", state, numbers::state(second.state));
+            same("as state", state, numbers::state(second.state));
             buffer.expect(&second.buffer);
         }
-        if row.start.open == 0 {
-            compare_whole_row(row, memory);
+        if row.start.state.is_none() && row.start.settings.are_good() {
+            compare_whole(row, &second.buffer, memory);
         }
     }
 }
 
-/// The wrapper's receiver, which starts idle, beside demand 3 told over the whole row.
-fn compare_whole_row(row: &Row, memory: &mut Memory) {
-    let mut buffer = memory.buffer(&row.buffer);
-    let settings = numbers::settings(&row.settings);
-    let mut receiver = fossknut::Receiver::new(settings, buffer.lend());
-    let mut second = row.second();
-    let mut handed_over = Vec::new();
-    for event in &row.events {
-        handed_over.push(match event {
-            Event::Gap => {
-                receiver.gap();
-                second.gap();
-                None
-            }
+/// The wrapper's receiver beside demand 3 told over the whole row, and its buffer in the end.
+fn compare_whole(row: &Row, buffer_after: &[u8], memory: &Memory) {
+    let Receiver {
+        settings, buffer, ..
+    } = &row.start;
+    let whole = whole_runs(settings, buffer.len(), &row.events);
+    let mut buffer = memory.buffer(buffer);
+    let mut receiver = fossknut::Receiver::new(numbers::settings(settings), buffer.lend());
+    for (event, whole) in row.events.iter().zip(&whole) {
+        let mut unit = None;
+        match event {
+            Event::Gap => receiver.gap(),
             Event::Section(bytes) => {
-                let answer = receiver.receive(bytes);
-                same("number", answer.number(), second.receive(bytes).number);
-                match answer {
-                    Answer::Delivered(unit) => Some(unit.to_vec()),
-                    _ => None,
+                if let fossknut::Answer::Delivered(delivered) = receiver.receive(bytes) {
+                    unit = Some(delivered);
                 }
             }
-        });
+        }
+        same("as unit", unit, whole.as_ref().map(|run| &run.unit[..]));
     }
-    if row.settings.are_good() {
-        let whole = whole_runs(&row.settings, row.buffer.len(), &row.events);
-        let units = whole.into_iter().map(|whole| whole.map(|run| run.unit));
-        same("units", handed_over, units.collect());
-    }
-    buffer.expect(&second.buffer);
+    buffer.expect(buffer_after);
 }
 
-/// Idle or open, by numbers of any value: what is not 0 is 1 (READINGS A12).
-fn any_start(random: &mut Random) -> State {
-    let any_1 = random.pick(&[1, 1, 2, 128, 255]);
-    let state = match random.below(4) {
-        0 => State::default(),
-        _ => numbers::state(Some(any_state(random))),
-    };
-    State {
-        open: state.open * random.pick(&[0, any_1, any_1]),
-        flag: state.flag * any_1,
-        ..state
-    }
-}
-
-/// Mostly short; often what is filled has hardly any room behind it.
+/// Mostly short; often there is hardly any room behind what is filled.
 fn any_buffer_length(random: &mut Random, filled: usize) -> usize {
     match random.below(64) {
         0 => random.below(66_001),
@@ -162,23 +123,21 @@ fn any_buffer_length(random: &mut Random, filled: usize) -> usize {
 }
 
 /// Events of which each nearly goes on with the run that the receiver has open, or opens one.
-fn nearly_a_run(random: &mut Random, mut receiver: Receiver) -> Vec<Event> {
-    let mut events = Vec::new();
-    for _ in 0..random.between(1, 16) {
+fn nearly_runs(random: &mut Random, mut receiver: Receiver) -> Vec<Event> {
+    let mut event = || {
         if random.one_in(24) {
             receiver.gap();
-            events.push(Event::Gap);
-            continue;
+            return Event::Gap;
         }
         let limit = receiver.settings.limit.min(255);
-        let last = random.pick(&[0, 1, 2, 5, limit.saturating_sub(1), limit, 254, 255]);
-        let flag = random.one_in(2);
-        let run = receiver.state.unwrap_or(Run {
+        let few = random.below(4);
+        let first = Run {
             next: 0,
-            last,
+            last: random.pick(&[few, few, few, limit.saturating_sub(1), limit]),
             filled: 0,
-            flag,
-        });
+            flag: random.one_in(2),
+        };
+        let run = receiver.state.unwrap_or(first);
         let left = room(receiver.buffer.len()).saturating_sub(run.filled);
         let payload_length = any_payload_length(random, left);
         let mut section = nearly_continuing(random, &receiver.settings, &run, payload_length);
@@ -186,12 +145,12 @@ fn nearly_a_run(random: &mut Random, mut receiver: Receiver) -> Vec<Event> {
             section = mutated(random, section);
         }
         receiver.receive(&section);
-        events.push(Event::Section(section));
-    }
-    events
+        Event::Section(section)
+    };
+    (0..12).map(|_| event()).collect()
 }
 
-/// None, one byte, the longest, any; often about as much as there is room for.
+/// None, one byte, the most, any; often about as much as there is room for.
 fn any_payload_length(random: &mut Random, left: usize) -> usize {
     let length = match random.below(32) {
         0 => 4_080,

@@ -1,11 +1,11 @@
 //! The sender, by any piece size and by its own, and the way back through the receiver.
 
-use fossknut::{Answer, Refusal};
+use fossknut::Answer;
 use second::generator::rows::{bad_settings, good_settings};
 use second::random::Random;
 use second::receiver::Settings;
 use second::recording::offers;
-use second::sender::PIECE_SIZE;
+use second::sender::{send, PIECE_SIZE};
 use second::tally::Tally;
 
 use crate::ffi;
@@ -13,12 +13,9 @@ use crate::memory::{same, Memory};
 use crate::numbers;
 use crate::target::Compare;
 
-/// With a piece size.
-pub struct Send;
-/// Without.
-pub struct SendByDefault;
+pub struct Send<const BY_DEFAULT: bool>;
 
-/// What a sender is given.
+/// What a sender is given; `output` is the buffer before.
 #[derive(Debug)]
 pub struct Sending {
     settings: Settings,
@@ -28,57 +25,66 @@ pub struct Sending {
     output: Vec<u8>,
 }
 
-impl Compare for Send {
+impl<const BY_DEFAULT: bool> Compare for Send<BY_DEFAULT> {
     type Input = Sending;
 
     fn input(random: &mut Random) -> Sending {
-        let piece_size = match random.below(8) {
-            0 => random.pick(&[0, 4_081, 4_096, 65_537, 1 << 32 | 16, usize::MAX]),
-            1 => random.pick(&[1, 2, 4_079, 4_080]),
-            2 => random.between(1, 4_080),
-            _ => random.between(1, 200),
+        let settings = match random.below(16) {
+            0 => bad_settings(random),
+            _ => good_settings(random),
         };
-        any_sending(random, Some(piece_size))
+        let piece_size = (!BY_DEFAULT).then(|| any_piece_size(random));
+        let size = piece_size.unwrap_or(PIECE_SIZE).clamp(1, PIECE_SIZE);
+        let unit_length = any_unit_length(random, size, settings.limit.min(256));
+        let exact = unit_length + 16 * ((unit_length + size - 1) / size).max(1);
+        let output_length = match random.below(8) {
+            0 => random.below(exact),
+            1 | 2 => exact - 1,
+            3 | 4 => exact + random.between(1, 100),
+            _ => exact,
+        };
+        Sending {
+            settings,
+            flag: random.pick(&[0, 1, 2, 128, 255]),
+            piece_size,
+            unit: random.repeated(unit_length),
+            output: random.repeated(output_length),
+        }
     }
 
     fn compare(sending: &Sending, memory: &mut Memory, tally: &mut Tally) {
-        compare(sending, memory, tally);
+        let Sending { settings, unit, .. } = sending;
+        let (flag, piece_size) = (sending.flag, sending.piece_size);
+        let mut expected = sending.output.clone();
+        let second = send(settings, flag != 0, piece_size, unit, &mut expected);
+        let settings = numbers::settings(settings);
+        let mut output = memory.buffer(&sending.output);
+        let answer = memory.call(unit, |unit| match (flag, piece_size) {
+            // The wrapper gives no other flags.
+            (0 | 1, _) => fossknut::send(&settings, flag == 1, piece_size, unit, output.lend())
+                .map_or_else(|refusal| (refusal.number(), 0), |length| (0, length)),
+            (_, Some(size)) => ffi::send(&settings, flag, size, unit, output.lend()),
+            (_, None) => ffi::send_by_default(&settings, flag, unit, output.lend()),
+        });
+        same(
+            "as number and length",
+            answer,
+            (second.number, second.length),
+        );
+        output.expect(&expected);
+        if second.number == 0 {
+            expect_back(settings, unit, &expected[..second.length]);
+        }
+        tally.count(second.number);
     }
 }
 
-impl Compare for SendByDefault {
-    type Input = Sending;
-
-    fn input(random: &mut Random) -> Sending {
-        any_sending(random, None)
-    }
-
-    fn compare(sending: &Sending, memory: &mut Memory, tally: &mut Tally) {
-        compare(sending, memory, tally);
-    }
-}
-
-fn any_sending(random: &mut Random, piece_size: Option<usize>) -> Sending {
-    let settings = match random.below(16) {
-        0 => bad_settings(random),
-        _ => good_settings(random),
-    };
-    let size = piece_size.unwrap_or(PIECE_SIZE).clamp(1, PIECE_SIZE);
-    let unit_length = any_unit_length(random, size, settings.limit.min(256));
-    let sections = (unit_length + size - 1) / size;
-    let exact = unit_length + 16 * sections.max(1);
-    let output_length = match random.below(8) {
-        0 => random.below(exact),
-        1 | 2 => exact - 1,
-        3 | 4 => exact + random.between(1, 100),
-        _ => exact,
-    };
-    Sending {
-        settings,
-        flag: random.pick(&[0, 1, 2, 128, 255]),
-        piece_size,
-        unit: random.repeated(unit_length),
-        output: random.repeated(output_length),
+fn any_piece_size(random: &mut Random) -> usize {
+    match random.below(8) {
+        0 => random.pick(&[0, 4_081, 4_096, 65_537, 1 << 32 | 16, usize::MAX]),
+        1 => random.pick(&[1, 2, 4_079, 4_080]),
+        2 => random.between(1, 4_080),
+        _ => random.between(1, 200),
     }
 }
 
@@ -89,43 +95,10 @@ fn any_unit_length(random: &mut Random, size: usize, limit: usize) -> usize {
         0 => random.between(65_533, 65_538),
         1 => random.below(66_000),
         2 | 3 => 0,
-        4..=11 => size * limit + random.below(3),
+        4..=7 => size * limit + random.below(3),
         _ => size * pieces + random.below(3),
     };
     length.saturating_sub(1).min(66_000)
-}
-
-fn compare(sending: &Sending, memory: &mut Memory, tally: &mut Tally) {
-    let Sending {
-        flag, piece_size, ..
-    } = *sending;
-    let unit = &sending.unit[..];
-    let settings = numbers::settings(&sending.settings);
-    let mut expected = sending.output.clone();
-    let second = second::sender::send(
-        &sending.settings,
-        flag != 0,
-        piece_size,
-        unit,
-        &mut expected,
-    );
-    let mut output = memory.buffer(&sending.output);
-    let answer = memory.call(unit, |unit| match piece_size {
-        Some(size) => ffi::send(&settings, flag, size, unit, output.lend()),
-        None => ffi::send_by_default(&settings, flag, unit, output.lend()),
-    });
-    same("number and length", answer, (second.number, second.length));
-    output.expect(&expected);
-    let mut by_wrapper = memory.buffer(&sending.output);
-    let sent = fossknut::send(&settings, flag != 0, piece_size, unit, by_wrapper.lend());
-    let number = sent.map_or_else(Refusal::number, |_| 0);
-    same("the wrapper's number", number, second.number);
-    by_wrapper.expect(&expected);
-    if let Ok(length) = sent {
-        same("the wrapper's length", length, second.length);
-        expect_back(settings, unit, &expected[..length]);
-    }
-    tally.count(answer.0);
 }
 
 /// A fresh receiver with just the room stores each section but the last, and then has the unit.
@@ -138,6 +111,6 @@ fn expect_back(settings: fossknut::Settings, unit: &[u8], sections: &[u8]) {
         } else {
             Answer::Delivered(unit)
         };
-        same("the way back", receiver.receive(section), expected);
+        same("on the way back", receiver.receive(section), expected);
     }
 }
