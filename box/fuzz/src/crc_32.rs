@@ -4,25 +4,18 @@ use second::random::Random;
 use second::tally::Tally;
 
 use crate::memory::{same, Memory};
-use crate::target::Compare;
 
-pub struct Crc32;
+pub fn input(random: &mut Random) -> Vec<u8> {
+    let length = match random.below(200) {
+        0 => random.below(70_001),
+        1..=9 => random.below(5_000),
+        _ => random.below(301),
+    };
+    random.bytes(length)
+}
 
-impl Compare for Crc32 {
-    type Input = Vec<u8>;
-
-    fn input(random: &mut Random) -> Vec<u8> {
-        let length = match random.below(200) {
-            0 => random.below(70_001),
-            1..=9 => random.below(5_000),
-            _ => random.below(301),
-        };
-        random.bytes(length)
-    }
-
-    fn compare(bytes: &Vec<u8>, memory: &mut Memory, tally: &mut Tally) {
-        let crc_32 = memory.call(bytes, fossknut::crc_32);
-        same("as CRC_32", crc_32, second::crc_32(bytes));
-        tally.count(0);
-    }
+pub fn compare(bytes: &Vec<u8>, memory: &mut Memory, tally: &mut Tally) {
+    let crc_32 = memory.call(bytes, fossknut::crc_32);
+    same("CRC_32", crc_32, second::crc_32(bytes));
+    tally.count(0);
 }

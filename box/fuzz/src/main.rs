@@ -46,6 +46,7 @@ fn main() -> ExitCode {
     };
     let begun = File::create(&words[2]).expect("a file to write to");
     println!("fuzz: seed {seed}");
+    target::keep_panics();
     let tallies = Run::new(seed, cases, begun).on_all_processors(Duration::from_secs(seconds));
     target::print(&tallies);
     if seconds < EVERY_ANSWER || is_single || every_answer(&tallies) {

@@ -76,7 +76,7 @@ impl Buffer {
             let mut pairs = self.area.iter().zip(&expected);
             let first = pairs.position(|(one, other)| one != other).unwrap_or(0);
             let place = first as isize - self.before as isize;
-            let what = format!("from byte {place} of {} in the buffer", second.len());
+            let what = format!("buffer of {} from byte {place} on", second.len());
             same(&what, &self.area[first..], &expected[first..]);
         }
     }
@@ -87,6 +87,6 @@ impl Buffer {
 pub fn same<T: PartialEq + Debug>(what: &str, library: T, second: T) {
     assert!(
         library == second,
-        "{what} the library gave {library:02X?}, the second program {second:02X?}"
+        "{what}: the library gave {library:02X?}, the second program {second:02X?}"
     );
 }

@@ -5,56 +5,29 @@ use second::generator::mutated;
 use second::generator::notifications::{
     any_notification, bytes_changed, descriptor, faulty, with_loops, CHECKS,
 };
+use second::notification::Answer;
 use second::random::Random;
 use second::tally::Tally;
 
 use crate::ffi;
 use crate::memory::{same, Memory};
-use crate::target::Compare;
 
-pub struct Notification;
+/// A device and a section.
+type Input = ([u8; 6], Vec<u8>);
 
-impl Compare for Notification {
-    /// A device and a section.
-    type Input = ([u8; 6], Vec<u8>);
-
-    fn input(random: &mut Random) -> Self::Input {
-        let (device, section) = any_notification(random);
-        match random.below(10) {
-            0 => {
-                let length = random.below(60);
-                (device, random.bytes(length))
-            }
-            1 => bytes_changed(random),
-            2 | 3 => {
-                let faults = CHECKS.into_iter().filter(|_| random.one_in(8));
-                let faults: Vec<u8> = faults.collect();
-                faulty(random, &faults)
-            }
-            4 => (device, any_loops(random)),
-            5 => (any_notification(random).0, section),
-            6..=8 => (device, section),
-            _ => (device, mutated(random, section)),
+pub fn input(random: &mut Random) -> Input {
+    let (device, section) = any_notification(random);
+    match random.below(10) {
+        0 => (device, random.bytes(section.len())),
+        1 => bytes_changed(random),
+        2 | 3 => {
+            let faults = random.some(&CHECKS, 8);
+            faulty(random, &faults)
         }
-    }
-
-    fn compare((device, section): &Self::Input, memory: &mut Memory, tally: &mut Tally) {
-        let answer = memory.call(section, |section| ffi::notification(*device, section));
-        let expected = second::notification::read(*device, section);
-        same(
-            "as number and place",
-            answer,
-            (expected.number, expected.place),
-        );
-        let wrapped = read(*device, section).map_err(Refusal::number);
-        let wrapped = wrapped.map(|found| found.map(|nine| nine.bytes().as_ptr_range()));
-        let expected = match answer {
-            (3, place) => Ok(Some(section[place..place + 9].as_ptr_range())),
-            (4, _) => Ok(None),
-            (number, _) => Err(number),
-        };
-        same("as the wrapper's answer", wrapped, expected);
-        tally.count(answer.0);
+        4 => (device, any_loops(random)),
+        5 => (any_notification(random).0, section),
+        6..=8 => (device, section),
+        _ => (device, mutated(random, section)),
     }
 }
 
@@ -70,4 +43,19 @@ fn any_loops(random: &mut Random) -> Vec<u8> {
         }
     }
     with_loops(&loops)
+}
+
+pub fn compare((device, section): &Input, memory: &mut Memory, tally: &mut Tally) {
+    let answer = memory.call(section, |section| ffi::notification(*device, section));
+    let Answer { number, place } = second::notification::read(*device, section);
+    same("number and place", answer, (number, place));
+    let wrapped = read(*device, section).map_err(Refusal::number);
+    let wrapped = wrapped.map(|found| found.map(|nine| nine.bytes().as_ptr_range()));
+    let expected = match number {
+        3 => Ok(Some(section[place..place + 9].as_ptr_range())),
+        4 => Ok(None),
+        _ => Err(number),
+    };
+    same("answer of the wrapper", wrapped, expected);
+    tally.count(number);
 }

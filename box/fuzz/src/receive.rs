@@ -1,7 +1,7 @@
 //! The receiver: rows of sections and gap notices, the state handed on.
 
 use second::generator::mutated;
-use second::generator::rows::{any_row, any_state, bad_settings, good_settings, nearly_continuing};
+use second::generator::rows::{any_row, any_settings, any_state, good_state, nearly_continuing};
 use second::random::Random;
 use second::receiver::{room, Answer, Receiver, Run};
 use second::row::{whole_runs, Event};
@@ -10,9 +10,6 @@ use second::tally::Tally;
 use crate::ffi::{self, State};
 use crate::memory::{same, Memory};
 use crate::numbers;
-use crate::target::Compare;
-
-pub struct Receive;
 
 /// What a receiver starts with, its state also in numbers, and what it is given.
 #[derive(Debug)]
@@ -22,93 +19,38 @@ pub struct Row {
     events: Vec<Event>,
 }
 
-impl Compare for Receive {
-    type Input = Row;
-
-    fn input(random: &mut Random) -> Row {
-        if random.one_in(2) {
-            let row = any_row(random);
-            return Row {
-                start: Receiver::new(row.settings, random.repeated(row.buffer_length)),
-                state: State::default(),
-                events: row.events,
-            };
-        }
-        let settings = match random.below(16) {
-            0 => bad_settings(random),
-            _ => good_settings(random),
+pub fn input(random: &mut Random) -> Row {
+    if random.one_in(2) {
+        let row = any_row(random);
+        return Row {
+            start: Receiver::new(row.settings, random.repeated(row.buffer_length)),
+            state: State::default(),
+            events: row.events,
         };
-        let run = any_state(random);
-        // READINGS A12: any number but 0 is a 1; what else an idle state has does not matter.
-        let state = State {
-            open: random.pick(&[0, 0, 1, 2, 255]),
-            flag: u8::from(run.flag) * random.pick(&[1, 2, 255]),
-            ..numbers::state(Some(run))
-        };
-        let buffer_length = any_buffer_length(random, run.filled);
-        let start = Receiver {
-            settings,
-            state: (state.open != 0).then_some(run),
-            buffer: random.repeated(buffer_length),
-        };
-        let events = nearly_runs(random, start.clone());
-        Row {
-            start,
-            state,
-            events,
-        }
     }
-
-    fn compare(row: &Row, memory: &mut Memory, tally: &mut Tally) {
-        let settings = numbers::settings(&row.start.settings);
-        let mut state = row.state;
-        let mut buffer = memory.buffer(&row.start.buffer);
-        let mut second = row.start.clone();
-        for event in &row.events {
-            match event {
-                Event::Gap => {
-                    ffi::gap(&mut state);
-                    second.gap();
-                }
-                Event::Section(bytes) => {
-                    let answer = memory.call(bytes, |section| {
-                        ffi::receive(&settings, &mut state, section, buffer.lend())
-                    });
-                    let Answer { number, length } = second.receive(bytes);
-                    same("as number and length", answer, (number, length));
-                    tally.count(number);
-                }
-            }
-            same("as state", state, numbers::state(second.state));
-            buffer.expect(&second.buffer);
-        }
-        if row.start.state.is_none() && row.start.settings.are_good() {
-            compare_whole(row, &second.buffer, memory);
-        }
+    let run = match random.below(3) {
+        0 => any_state(random),
+        _ => good_state(random),
+    };
+    // READINGS A12: any number but 0 is a 1; what else an idle state has does not matter.
+    let state = State {
+        open: random.pick(&[0, 0, 1, 2, 255]),
+        flag: u8::from(run.flag) * random.pick(&[1, 2, 255]),
+        ..numbers::state(Some(run))
+    };
+    let buffer_length = any_buffer_length(random, run.filled);
+    let start = Receiver {
+        settings: any_settings(random),
+        state: (state.open != 0).then_some(run),
+        buffer: random.repeated(buffer_length),
+    };
+    let mut receiver = start.clone();
+    let events = (0..12).map(|_| nearly_right(random, &mut receiver));
+    Row {
+        start,
+        state,
+        events: events.collect(),
     }
-}
-
-/// The wrapper's receiver beside demand 3 told over the whole row, and its buffer in the end.
-fn compare_whole(row: &Row, buffer_after: &[u8], memory: &Memory) {
-    let Receiver {
-        settings, buffer, ..
-    } = &row.start;
-    let whole = whole_runs(settings, buffer.len(), &row.events);
-    let mut buffer = memory.buffer(buffer);
-    let mut receiver = fossknut::Receiver::new(numbers::settings(settings), buffer.lend());
-    for (event, whole) in row.events.iter().zip(&whole) {
-        let mut unit = None;
-        match event {
-            Event::Gap => receiver.gap(),
-            Event::Section(bytes) => {
-                if let fossknut::Answer::Delivered(delivered) = receiver.receive(bytes) {
-                    unit = Some(delivered);
-                }
-            }
-        }
-        same("as unit", unit, whole.as_ref().map(|run| &run.unit[..]));
-    }
-    buffer.expect(buffer_after);
 }
 
 /// Mostly short; often there is hardly any room behind what is filled.
@@ -122,32 +64,29 @@ fn any_buffer_length(random: &mut Random, filled: usize) -> usize {
     }
 }
 
-/// Events of which each nearly goes on with the run that the receiver has open, or opens one.
-fn nearly_runs(random: &mut Random, mut receiver: Receiver) -> Vec<Event> {
-    let mut event = || {
-        if random.one_in(24) {
-            receiver.gap();
-            return Event::Gap;
-        }
-        let limit = receiver.settings.limit.min(255);
-        let few = random.below(4);
-        let first = Run {
-            next: 0,
-            last: random.pick(&[few, few, few, limit.saturating_sub(1), limit]),
-            filled: 0,
-            flag: random.one_in(2),
-        };
-        let run = receiver.state.unwrap_or(first);
-        let left = room(receiver.buffer.len()).saturating_sub(run.filled);
-        let payload_length = any_payload_length(random, left);
-        let mut section = nearly_continuing(random, &receiver.settings, &run, payload_length);
-        if random.one_in(24) {
-            section = mutated(random, section);
-        }
-        receiver.receive(&section);
-        Event::Section(section)
+/// What nearly goes on with the run that the receiver has open, or opens one, and is given to it.
+fn nearly_right(random: &mut Random, receiver: &mut Receiver) -> Event {
+    if random.one_in(24) {
+        receiver.gap();
+        return Event::Gap;
+    }
+    let limit = receiver.settings.limit.min(255);
+    let few = random.below(4);
+    let first = Run {
+        next: 0,
+        last: random.pick(&[few, few, few, limit.saturating_sub(1), limit]),
+        filled: 0,
+        flag: random.one_in(2),
     };
-    (0..12).map(|_| event()).collect()
+    let run = receiver.state.unwrap_or(first);
+    let left = room(receiver.buffer.len()).saturating_sub(run.filled);
+    let payload_length = any_payload_length(random, left);
+    let mut section = nearly_continuing(random, &receiver.settings, &run, payload_length);
+    if random.one_in(24) {
+        section = mutated(random, section);
+    }
+    receiver.receive(&section);
+    Event::Section(section)
 }
 
 /// None, one byte, the most, any; often about as much as there is room for.
@@ -162,4 +101,54 @@ fn any_payload_length(random: &mut Random, left: usize) -> usize {
         _ => random.below(40),
     };
     length.min(4_080)
+}
+
+pub fn compare(row: &Row, memory: &mut Memory, tally: &mut Tally) {
+    let settings = numbers::settings(&row.start.settings);
+    let mut state = row.state;
+    let mut buffer = memory.buffer(&row.start.buffer);
+    let mut second = row.start.clone();
+    for event in &row.events {
+        match event {
+            Event::Gap => {
+                ffi::gap(&mut state);
+                second.gap();
+            }
+            Event::Section(bytes) => {
+                let answer = memory.call(bytes, |section| {
+                    ffi::receive(&settings, &mut state, section, buffer.lend())
+                });
+                let Answer { number, length } = second.receive(bytes);
+                same("number and length", answer, (number, length));
+                tally.count(number);
+            }
+        }
+        same("state", state, numbers::state(second.state));
+        buffer.expect(&second.buffer);
+    }
+    if row.start.state.is_none() && row.start.settings.are_good() {
+        compare_whole(row, &second.buffer, memory);
+    }
+}
+
+/// The wrapper's receiver beside demand 3 told over the whole row, and its buffer in the end.
+fn compare_whole(row: &Row, buffer_after: &[u8], memory: &Memory) {
+    let settings = &row.start.settings;
+    let whole = whole_runs(settings, buffer_after.len(), &row.events);
+    let mut buffer = memory.buffer(&row.start.buffer);
+    let mut receiver = fossknut::Receiver::new(numbers::settings(settings), buffer.lend());
+    for (event, whole) in row.events.iter().zip(&whole) {
+        let unit = match event {
+            Event::Gap => {
+                receiver.gap();
+                None
+            }
+            Event::Section(bytes) => match receiver.receive(bytes) {
+                fossknut::Answer::Delivered(unit) => Some(unit),
+                _ => None,
+            },
+        };
+        same("unit", unit, whole.as_ref().map(|run| &run.unit[..]));
+    }
+    buffer.expect(buffer_after);
 }

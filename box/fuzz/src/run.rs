@@ -1,6 +1,7 @@
 //! A run: cases on all processors, until the time is over or one fails.
 
 use std::fs::File;
+use std::io::{stderr, Write};
 use std::ops::Range;
 use std::os::unix::fs::FileExt;
 use std::process::exit;
@@ -11,7 +12,7 @@ use std::time::{Duration, Instant};
 use second::random::Random;
 
 use crate::memory::Memory;
-use crate::target::{grouped, of_case, Tallies, TARGETS};
+use crate::target::{grouped, Case, Tallies, TARGETS};
 
 /// How long the last cases may take when the time is over.
 const PATIENCE: Duration = Duration::from_secs(60);
@@ -84,12 +85,20 @@ impl Run {
                 .begun
                 .write_all_at(&case.to_le_bytes(), 8 * thread as u64);
             begun.expect("the file takes a number");
-            let target = of_case(case);
-            let random = &mut Random::of_case(self.seed, case);
-            let done = (TARGETS[target].case)(random, &mut memory, &mut tallies[target]);
-            if let Err(input) = done {
+            let target = (case % TARGETS.len() as u64) as usize;
+            let done = (TARGETS[target].run)(Case {
+                random: Random::of_case(self.seed, case),
+                memory: &mut memory,
+                tally: &mut tallies[target],
+            });
+            if let Err(error) = done {
                 let (seed, name) = (self.seed, TARGETS[target].name);
-                eprintln!("fuzz: seed {seed}, target {name}, case {case}, input {input}");
+                let mut errors = stderr().lock(); // and nobody else says more
+                writeln!(
+                    errors,
+                    "fuzz: seed {seed}, target {name}, case {case}: {error}"
+                )
+                .ok();
                 exit(1);
             }
         }

@@ -1,7 +1,7 @@
 //! The sender, by any piece size and by its own, and the way back through the receiver.
 
 use fossknut::Answer;
-use second::generator::rows::{bad_settings, good_settings};
+use second::generator::rows::any_settings;
 use second::random::Random;
 use second::receiver::Settings;
 use second::recording::offers;
@@ -11,9 +11,6 @@ use second::tally::Tally;
 use crate::ffi;
 use crate::memory::{same, Memory};
 use crate::numbers;
-use crate::target::Compare;
-
-pub struct Send<const BY_DEFAULT: bool>;
 
 /// What a sender is given; `output` is the buffer before.
 #[derive(Debug)]
@@ -25,66 +22,37 @@ pub struct Sending {
     output: Vec<u8>,
 }
 
-impl<const BY_DEFAULT: bool> Compare for Send<BY_DEFAULT> {
-    type Input = Sending;
-
-    fn input(random: &mut Random) -> Sending {
-        let settings = match random.below(16) {
-            0 => bad_settings(random),
-            _ => good_settings(random),
-        };
-        let piece_size = (!BY_DEFAULT).then(|| any_piece_size(random));
-        let size = piece_size.unwrap_or(PIECE_SIZE).clamp(1, PIECE_SIZE);
-        let unit_length = any_unit_length(random, size, settings.limit.min(256));
-        let exact = unit_length + 16 * ((unit_length + size - 1) / size).max(1);
-        let output_length = match random.below(8) {
-            0 => random.below(exact),
-            1 | 2 => exact - 1,
-            3 | 4 => exact + random.between(1, 100),
-            _ => exact,
-        };
-        Sending {
-            settings,
-            flag: random.pick(&[0, 1, 2, 128, 255]),
-            piece_size,
-            unit: random.repeated(unit_length),
-            output: random.repeated(output_length),
-        }
-    }
-
-    fn compare(sending: &Sending, memory: &mut Memory, tally: &mut Tally) {
-        let Sending { settings, unit, .. } = sending;
-        let (flag, piece_size) = (sending.flag, sending.piece_size);
-        let mut expected = sending.output.clone();
-        let second = send(settings, flag != 0, piece_size, unit, &mut expected);
-        let settings = numbers::settings(settings);
-        let mut output = memory.buffer(&sending.output);
-        let answer = memory.call(unit, |unit| match (flag, piece_size) {
-            // The wrapper gives no other flags.
-            (0 | 1, _) => fossknut::send(&settings, flag == 1, piece_size, unit, output.lend())
-                .map_or_else(|refusal| (refusal.number(), 0), |length| (0, length)),
-            (_, Some(size)) => ffi::send(&settings, flag, size, unit, output.lend()),
-            (_, None) => ffi::send_by_default(&settings, flag, unit, output.lend()),
-        });
-        same(
-            "as number and length",
-            answer,
-            (second.number, second.length),
-        );
-        output.expect(&expected);
-        if second.number == 0 {
-            expect_back(settings, unit, &expected[..second.length]);
-        }
-        tally.count(second.number);
-    }
-}
-
-fn any_piece_size(random: &mut Random) -> usize {
-    match random.below(8) {
+pub fn input(random: &mut Random) -> Sending {
+    let piece_size = match random.below(8) {
         0 => random.pick(&[0, 4_081, 4_096, 65_537, 1 << 32 | 16, usize::MAX]),
         1 => random.pick(&[1, 2, 4_079, 4_080]),
         2 => random.between(1, 4_080),
         _ => random.between(1, 200),
+    };
+    any_sending(random, Some(piece_size))
+}
+
+pub fn input_by_default(random: &mut Random) -> Sending {
+    any_sending(random, None)
+}
+
+fn any_sending(random: &mut Random, piece_size: Option<usize>) -> Sending {
+    let settings = any_settings(random);
+    let size = piece_size.unwrap_or(PIECE_SIZE).clamp(1, PIECE_SIZE);
+    let unit_length = any_unit_length(random, size, settings.limit.min(256));
+    let exact = unit_length + 16 * ((unit_length + size - 1) / size).max(1);
+    let output_length = match random.below(8) {
+        0 => random.below(exact),
+        1 | 2 => exact - 1,
+        3 | 4 => exact + random.between(1, 100),
+        _ => exact,
+    };
+    Sending {
+        settings,
+        flag: random.pick(&[0, 1, 2, 128, 255]),
+        piece_size,
+        unit: random.repeated(unit_length),
+        output: random.repeated(output_length),
     }
 }
 
@@ -101,16 +69,38 @@ fn any_unit_length(random: &mut Random, size: usize, limit: usize) -> usize {
     length.saturating_sub(1).min(66_000)
 }
 
+pub fn compare(sending: &Sending, memory: &mut Memory, tally: &mut Tally) {
+    let Sending { settings, unit, .. } = sending;
+    let (flag, piece_size) = (sending.flag, sending.piece_size);
+    let mut expected = sending.output.clone();
+    let second = send(settings, flag != 0, piece_size, unit, &mut expected);
+    let settings = numbers::settings(settings);
+    let mut output = memory.buffer(&sending.output);
+    let answer = memory.call(unit, |unit| match (flag, piece_size) {
+        // The wrapper gives no other flags.
+        (0 | 1, _) => fossknut::send(&settings, flag == 1, piece_size, unit, output.lend())
+            .map_or_else(|refusal| (refusal.number(), 0), |length| (0, length)),
+        (_, Some(size)) => ffi::send(&settings, flag, size, unit, output.lend()),
+        (_, None) => ffi::send_by_default(&settings, flag, unit, output.lend()),
+    });
+    same("number and length", answer, (second.number, second.length));
+    output.expect(&expected);
+    if second.number == 0 {
+        expect_back(settings, unit, &expected[..second.length]);
+    }
+    tally.count(second.number);
+}
+
 /// A fresh receiver with just the room stores each section but the last, and then has the unit.
 fn expect_back(settings: fossknut::Settings, unit: &[u8], sections: &[u8]) {
     let mut receiver = fossknut::Receiver::new(settings, vec![0; unit.len()]);
-    let count = offers(sections).count();
-    for (place, (_, section)) in offers(sections).enumerate() {
-        let expected = if place + 1 < count {
-            Answer::Stored
-        } else {
-            Answer::Delivered(unit)
+    let mut left = offers(sections).count();
+    for (_, section) in offers(sections) {
+        left -= 1;
+        let expected = match left {
+            0 => Answer::Delivered(unit),
+            _ => Answer::Stored,
         };
-        same("on the way back", receiver.receive(section), expected);
+        same("way back", receiver.receive(section), expected);
     }
 }

@@ -1,7 +1,8 @@
 //! What is compared: a function of the library a target.
 
+use std::cell::RefCell;
 use std::fmt::Debug;
-use std::panic::{catch_unwind, AssertUnwindSafe};
+use std::panic::{catch_unwind, set_hook, AssertUnwindSafe};
 
 use second::random::Random;
 use second::tally::Tally;
@@ -9,76 +10,78 @@ use second::tally::Tally;
 use crate::memory::Memory;
 use crate::{check, crc_32, notification, pes, receive, send};
 
-/// A function of the library and its twin in the second program.
-pub trait Compare {
-    /// All that they are given.
-    type Input: Debug;
-
-    fn input(random: &mut Random) -> Self::Input;
-
-    /// Panics where the two differ, and counts what they answer.
-    fn compare(input: &Self::Input, memory: &mut Memory, tally: &mut Tally);
-}
-
 pub struct Target {
     pub name: &'static str,
-    /// How many cases of a round it has: fewer where one takes long.
-    share: u64,
     /// All that can be reached; CRC_32 has none.
     answers: &'static [u8],
-    /// Runs one case; where it fails, the input is the error.
-    pub case: fn(&mut Random, &mut Memory, &mut Tally) -> Result<(), String>,
+    pub run: fn(Case) -> Result<(), String>,
+}
+
+/// What a case is made of, where it runs, and where its answers are counted.
+pub struct Case<'a> {
+    pub random: Random,
+    pub memory: &'a mut Memory,
+    pub tally: &'a mut Tally,
 }
 
 #[rustfmt::skip] // a target a line
 pub const TARGETS: [Target; 7] = [
-    Target { name: "crc_32", share: 6, answers: &[], case: case::<crc_32::Crc32> },
-    Target { name: "check", share: 6, answers: &[0, 12, 13, 14, 15, 16, 17, 18, 19], case: case::<check::Check> },
-    Target { name: "receive", share: 6, answers: &[0, 1, 2, 10, 11, 12, 13, 14, 15, 16, 17, 18, 19, 20, 21, 22, 23], case: case::<receive::Receive> },
-    Target { name: "send", share: 2, answers: &[0, 10, 50, 51, 52, 53], case: case::<send::Send<false>> },
-    Target { name: "send_by_default", share: 1, answers: &[0, 10, 51, 52, 53], case: case::<send::Send<true>> },
-    Target { name: "notification", share: 5, answers: &[3, 4, 12, 13, 14, 15, 16, 17, 18, 30, 31, 32, 33], case: case::<notification::Notification> },
-    Target { name: "pes", share: 6, answers: &[5, 40, 41, 42, 43], case: case::<pes::Pes> },
+    Target { name: "crc_32", run: |case| case.run(crc_32::input, crc_32::compare), answers: &[] },
+    Target { name: "check", run: |case| case.run(check::input, check::compare), answers: &[0, 12, 13, 14, 15, 16, 17, 18, 19] },
+    Target { name: "receive", run: |case| case.run(receive::input, receive::compare), answers: &[0, 1, 2, 10, 11, 12, 13, 14, 15, 16, 17, 18, 19, 20, 21, 22, 23] },
+    Target { name: "send", run: |case| case.run(send::input, send::compare), answers: &[0, 10, 50, 51, 52, 53] },
+    Target { name: "send_by_default", run: |case| case.run(send::input_by_default, send::compare), answers: &[0, 10, 51, 52, 53] },
+    Target { name: "notification", run: |case| case.run(notification::input, notification::compare), answers: &[3, 4, 12, 13, 14, 15, 16, 17, 18, 30, 31, 32, 33] },
+    Target { name: "pes", run: |case| case.run(pes::input, pes::compare), answers: &[5, 40, 41, 42, 43] },
 ];
 
 /// One a target.
 pub type Tallies = [Tally; TARGETS.len()];
 
-/// The target of a case, as its place among all.
-pub fn of_case(case: u64) -> usize {
-    let shares = TARGETS.iter().enumerate();
-    let mut round = shares.flat_map(|(place, target)| (0..target.share).map(move |_| place));
-    let turns = round.clone().count() as u64;
-    round.nth((case % turns) as usize).expect("a turn")
+thread_local! {
+    static PANIC: RefCell<String> = RefCell::default();
 }
 
-fn case<C: Compare>(
-    random: &mut Random,
-    memory: &mut Memory,
-    tally: &mut Tally,
-) -> Result<(), String> {
-    memory.place_anew(random);
-    let mut input = None;
-    let compared = AssertUnwindSafe(|| {
-        C::compare(input.insert(C::input(random)), memory, tally);
-    });
-    catch_unwind(compared).map_err(|_| format!("{input:02X?}"))
+/// Keeps what a panic says for the error of its case, so that two threads do not speak at once.
+pub fn keep_panics() {
+    set_hook(Box::new(|panic| {
+        PANIC.with(|kept| *kept.borrow_mut() = panic.to_string());
+    }));
 }
 
-/// A line a target.
+impl Case<'_> {
+    /// Makes the input and compares the two programs on it, which panics where they differ; then the
+    /// error says how, and on which input.
+    fn run<I: Debug>(
+        mut self,
+        input: fn(&mut Random) -> I,
+        compare: fn(&I, &mut Memory, &mut Tally),
+    ) -> Result<(), String> {
+        self.memory.place_anew(&mut self.random);
+        let mut made = None;
+        let compared = catch_unwind(AssertUnwindSafe(|| {
+            let made = made.insert(input(&mut self.random));
+            compare(made, self.memory, self.tally);
+        }));
+        compared.map_err(|_| {
+            let panic = PANIC.with(RefCell::take);
+            format!("{panic}\ninput: {made:02X?}")
+        })
+    }
+}
+
+/// A line for each target that had an input.
 pub fn print(tallies: &Tallies) {
-    for (Target { name, answers, .. }, tally) in TARGETS.iter().zip(tallies) {
+    for (target, tally) in TARGETS.iter().zip(tallies) {
         let inputs = tally.answered().map(|(_, times)| times).sum();
-        let answered = tally.answered();
-        let times = answered.map(|(number, times)| format!("{number}: {}", grouped(times)));
-        let times: Vec<String> = times.collect();
-        match answers {
-            [] => println!("{name}: {} inputs", grouped(inputs)),
-            _ => println!(
-                "{name}: {} inputs; answers {}",
-                grouped(inputs),
-                times.join(", ")
-            ),
+        let mut line = format!("{}: {} inputs", target.name, grouped(inputs));
+        let mut before = "; answers";
+        for (number, times) in tally.answered().filter(|_| !target.answers.is_empty()) {
+            line += &format!("{before} {number}: {}", grouped(times));
+            before = ",";
+        }
+        if inputs > 0 {
+            println!("{line}");
         }
     }
 }

@@ -42,6 +42,12 @@ impl Random {
         values[self.below(values.len())]
     }
 
+    /// Each of `values` once in `turns`.
+    pub fn some<T: Copy>(&mut self, values: &[T], turns: usize) -> Vec<T> {
+        let chosen = values.iter().filter(|_| self.one_in(turns));
+        chosen.copied().collect()
+    }
+
     /// Any byte.
     pub fn byte(&mut self) -> u8 {
         self.number() as u8

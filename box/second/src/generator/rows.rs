@@ -153,6 +153,14 @@ fn events(random: &mut Random, sections: Vec<Vec<u8>>) -> Vec<Event> {
     events
 }
 
+/// Seldom such as 10 refuses.
+pub fn any_settings(random: &mut Random) -> Settings {
+    match random.below(16) {
+        0 => bad_settings(random),
+        _ => good_settings(random),
+    }
+}
+
 /// Settings that 10 refuses: out of range, and such that only their low bits are good.
 pub fn bad_settings(random: &mut Random) -> Settings {
     let good = good_settings(random);
@@ -185,6 +193,21 @@ pub fn any_state(random: &mut Random) -> Run {
         next,
         last,
         filled,
+        flag: random.one_in(2),
+    }
+}
+
+/// An open state that is good: often with few sections to come, or with as much filled as can be.
+pub fn good_state(random: &mut Random) -> Run {
+    let few = random.between(1, 4);
+    let many = random.between(1, 254);
+    let next = random.pick(&[few, few, many]);
+    let most = 65_535.min(4_080 * next);
+    let less = random.below(most.min(300));
+    Run {
+        next,
+        last: 254.min(next + random.below(3)),
+        filled: random.pick(&[less, less, most, most - less]),
         flag: random.one_in(2),
     }
 }
