@@ -46,9 +46,9 @@ impl Run {
             self.watch(time, || workers.iter().all(|worker| worker.is_finished()));
             for worker in workers {
                 let tallies = worker.join().expect("a case's panic is caught");
-                all.iter_mut()
-                    .zip(&tallies)
-                    .for_each(|(all, tally)| all.add(tally));
+                for (all, tally) in all.iter_mut().zip(&tallies) {
+                    all.add(tally);
+                }
             }
         });
         all
@@ -67,8 +67,7 @@ impl Run {
                 println!("fuzz: {minutes} min, {} cases", grouped(cases as usize));
             }
             if start.elapsed() > time + PATIENCE {
-                eprintln!("fuzz: a case does not end");
-                exit(1);
+                fail("a case does not end");
             }
         }
     }
@@ -81,10 +80,10 @@ impl Run {
             if !self.cases.contains(&case) {
                 break;
             }
-            let begun = self
-                .begun
-                .write_all_at(&case.to_le_bytes(), 8 * thread as u64);
-            begun.expect("the file takes a number");
+            let place = 8 * thread as u64;
+            if let Err(error) = self.begun.write_all_at(&case.to_le_bytes(), place) {
+                fail(&error.to_string());
+            }
             let target = (case % TARGETS.len() as u64) as usize;
             let done = (TARGETS[target].run)(Case {
                 random: Random::of_case(self.seed, case),
@@ -93,15 +92,16 @@ impl Run {
             });
             if let Err(error) = done {
                 let (seed, name) = (self.seed, TARGETS[target].name);
-                let mut errors = stderr().lock(); // and nobody else says more
-                writeln!(
-                    errors,
-                    "fuzz: seed {seed}, target {name}, case {case}: {error}"
-                )
-                .ok();
-                exit(1);
+                fail(&format!("seed {seed}, target {name}, case {case}: {error}"));
             }
         }
         tallies
     }
+}
+
+/// Ends the run; no other thread says more.
+fn fail(why: &str) -> ! {
+    let mut errors = stderr().lock();
+    writeln!(errors, "fuzz: {why}").ok();
+    exit(1)
 }

@@ -90,11 +90,8 @@ pub fn print(tallies: &Tallies) {
 pub fn every_answer(tallies: &Tallies) -> bool {
     let mut every = true;
     for (target, tally) in TARGETS.iter().zip(tallies) {
-        for number in target
-            .answers
-            .iter()
-            .filter(|&&number| tally.times(number) == 0)
-        {
+        let is_missing = |number: &&u8| tally.times(**number) == 0;
+        for number in target.answers.iter().filter(is_missing) {
             eprintln!("fuzz: {} never answered {number}", target.name);
             every = false;
         }
