@@ -86,14 +86,15 @@ pub fn compare(sending: &Sending, memory: &mut Memory, tally: &mut Tally) {
     same("number and length", answer, (second.number, second.length));
     output.expect(&expected);
     if second.number == 0 {
-        expect_back(settings, unit, &expected[..second.length]);
+        expect_back(settings, unit, &expected[..second.length], memory);
     }
     tally.count(second.number);
 }
 
 /// A fresh receiver with just the room stores each section but the last, and then has the unit.
-fn expect_back(settings: fossknut::Settings, unit: &[u8], sections: &[u8]) {
-    let mut receiver = fossknut::Receiver::new(settings, vec![0; unit.len()]);
+fn expect_back(settings: fossknut::Settings, unit: &[u8], sections: &[u8], memory: &Memory) {
+    let mut buffer = memory.buffer(&vec![0; unit.len()]);
+    let mut receiver = fossknut::Receiver::new(settings, buffer.lend());
     let mut left = offers(sections).count();
     for (_, section) in offers(sections) {
         left -= 1;
@@ -103,4 +104,5 @@ fn expect_back(settings: fossknut::Settings, unit: &[u8], sections: &[u8]) {
         };
         same("way back", receiver.receive(section), expected);
     }
+    buffer.expect(unit);
 }
