@@ -34,14 +34,14 @@ pub fn input(random: &mut Random) -> Row {
     };
     // READINGS A12: any number but 0 is a 1; what else an idle state has does not matter.
     let state = State {
-        open: random.pick(&[0, 0, 1, 2, 255]),
+        run: random.pick(&[0, 0, 1, 2, 255]),
         flag: u8::from(run.flag) * random.pick(&[1, 2, 255]),
         ..numbers::state(Some(run))
     };
     let buffer_length = any_buffer_length(random, run.filled);
     let start = Receiver {
         settings: any_settings(random),
-        state: (state.open != 0).then_some(run),
+        state: (state.run != 0).then_some(run),
         buffer: random.repeated(buffer_length),
     };
     let mut receiver = start.clone();

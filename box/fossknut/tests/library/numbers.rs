@@ -14,7 +14,7 @@ pub(crate) fn settings(second: &Settings) -> fossknut::Settings {
 
 pub(crate) fn state(second: Option<Run>) -> ffi::State {
     second.map_or_else(ffi::State::default, |run| ffi::State {
-        open: 1,
+        run: 1,
         next: run.next,
         last: run.last,
         filled: run.filled,
@@ -25,8 +25,8 @@ pub(crate) fn state(second: Option<Run>) -> ffi::State {
 /// The answer's number, and what was read.
 pub(crate) fn pes(read: &Result<Packet, u8>) -> (u8, ffi::Pes) {
     let nothing = ffi::Pes {
-        extension_flag: 0,
-        rate_flag: 0,
+        extended: 0,
+        rated: 0,
         extension: 0,
         rate: 0,
         start: 0,
@@ -36,8 +36,8 @@ pub(crate) fn pes(read: &Result<Packet, u8>) -> (u8, ffi::Pes) {
         Err(number) => (*number, nothing),
         Ok(packet) => {
             let pes = ffi::Pes {
-                extension_flag: packet.extension.is_some().into(),
-                rate_flag: packet.rate.is_some().into(),
+                extended: packet.extension.is_some().into(),
+                rated: packet.rate.is_some().into(),
                 extension: packet.extension.unwrap_or(0).into(),
                 rate: packet.rate.unwrap_or(0) as usize,
                 start: packet.data.start,

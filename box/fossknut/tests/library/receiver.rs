@@ -176,7 +176,7 @@ fn settings_and_states_of_any_value() {
         // READINGS A12: any number but 0 is a 1.
         let any_1 = random.pick(&[1, 2, 128, 255]);
         pair.state.flag *= any_1;
-        pair.state.open *= any_1;
+        pair.state.run *= any_1;
         tally.count(pair.receive(&section).0);
     }
     tally.assert_all((0..=2).chain(10..=23), 20);
@@ -192,7 +192,7 @@ fn idle_with_any_numbers() {
         let section = short_nearly_continuing(&mut random, &settings, &run);
         let mut pair = memory.pair(Receiver::new(settings, vec![0; 100]));
         pair.state = ffi::State {
-            open: 0,
+            run: 0,
             ..numbers::state(Some(run))
         };
         pair.receive(&section);
@@ -204,7 +204,7 @@ fn gap_notices_in_any_state() {
     let mut random = Random::new(5);
     for _ in 0..10_000 {
         let mut state = ffi::State {
-            open: random.byte(),
+            run: random.byte(),
             flag: random.byte(),
             ..numbers::state(Some(any_state(&mut random)))
         };
