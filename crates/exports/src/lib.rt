@@ -62,15 +62,11 @@ pub extern "C" fn fossknut_receive(
         (now (buffer .exit)) ⌝ }
 {
     let settings = settings_of(mac1, mac2, mac3, mac4, mac5, mac6, range, limit);
-    let step = receiver::receive(
-        settings,
-        state_of(*run, *next, *last, *filled, *flag),
-        s,
-        buffer,
-    );
+    let state = state_of(*run, *next, *last, *filled, *flag);
+    let step = receiver::receive(settings, state, s, buffer);
     let answer = step.answer;
-    let state = step.state;
-    put(state, run, next, last, filled, flag);
+    let after = step.state;
+    put(after, run, next, last, filled, flag);
     *length = answers::length_of(answer);
     answers::number_of(answer)
 }
