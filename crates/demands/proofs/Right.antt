@@ -4,7 +4,9 @@ use denote.Ref.{now}
 use Rattle.rules.specs.Send.{defaultPiece}
 use Rattle.rules.proofs.Demand2.{round-trip}
 use Rattle.rules.proofs.Send.{accepts-exactly}
-use Rattle.notification_rules.proofs.Found.{found-exactly}
+use Rattle.notification_rules.specs.Notice.{refusal}
+use Rattle.notification_rules.proofs.Found.{found-exactly, takes}
+use Rattle.notification_rules.proofs.Taken.{written-is-taken}
 use Rattle.pes_rules.specs.declared.Reading.{Reading}
 use Rattle.pes_rules.proofs.Read.{read-is-written}
 use Rattle.demands.specs.Right.{Right}
@@ -21,5 +23,6 @@ right =
           round-trip (a .0) (a .1 .0) defaultPiece (now (a .1 .1 .0)) (now (a .1 .1 .1 .0)) n (sym (p .sending) ∙ q);
       notice = λ κs a z e p h n.
           (λ q. found-exactly (a .0) (now (a .1 .0)) n h .0 (sym p ∙ q), λ w. p ∙ found-exactly (a .0) (now (a .1 .0)) n h .1 w);
+      taken = λ κs a z e p n t w k q. takes (a .0) (now (a .1 .0)) (ap refusal w ∙ written-is-taken n t) k (sym p ∙ q);
       pes = λ κs a z e p b q. read-is-written (now (a .0)) b (ap (λ (r : Reading). r .answer) (sym p) ∙ q);
     }

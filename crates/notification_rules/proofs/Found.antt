@@ -10,7 +10,7 @@ use borrow.Author.Tests.{eq-eqb, ne-eqb, eqb-true, eqb-false}
 use Rattle.wire.specs.Choice.{pick, both}
 use Rattle.wire.proofs.Choice.{never}
 use Rattle.rules.specs.declared.Address.{Address}
-use Rattle.notification_rules.specs.declared.Notice.the-variants.{Found}
+use Rattle.notification_rules.specs.declared.Notice.the-variants.{Found, Refused}
 use Rattle.wire.specs.Part.{Part}
 use Rattle.notification_rules.specs.Cut.{isNil}
 use Rattle.notification_rules.specs.Loop.{loopsOf, content, tag, descriptorsOf, Pair, pairsOf}
@@ -286,3 +286,21 @@ found-exactly device s p h = (
   λ a. unrefused device s h
       ∙ first-found device s p a,
 )
+
+-- ---- the search refuses nothing
+found-takes : (l : Location) (k : ℕ) → found l ≡ Refused k → ⊥
+unfolding found
+found-takes nowhere k h = let z : _≡_ {A = ℕ} 0 1 = cc in omega arith
+found-takes (at d) k h = let z : _≡_ {A = ℕ} 0 1 = cc in omega arith
+
+searched-takes : (device : Address) (ls : List Part) (k : ℕ) → searched device ls ≡ Refused k → ⊥
+unfolding searched chosen
+searched-takes device [] k h = let z : _≡_ {A = ℕ} 0 1 = cc in omega arith
+searched-takes device (platform ∷ loops) k h = go (firstPair (answers device platform) (pairsOf loops)) h
+  where
+    go : (c : Choice) → chosen platform c ≡ Refused k → ⊥
+    go none h = let z : _≡_ {A = ℕ} 0 1 = cc in omega arith
+    go (one x) h = found-takes (locationOf platform x) k h
+
+pub takes : (device : Address) (s : List ℕ) → refusal s ≡ 0 → (k : ℕ) → noticeOf device s ≡ Refused k → ⊥
+takes device s h k e = searched-takes device (loopsOf s) k (sym (unrefused device s h) ∙ e)

@@ -7,4 +7,5 @@ pub mod Pasts
 pub mod Pieces
 pub mod Places
 pub mod Sound
+pub mod Taken
 pub mod Written

@@ -44,15 +44,19 @@ descriptors-cut ds =
     (λ d h s. omega arith) ds λ d m. tt
 
 -- ---- loops
+pub loop-length : (b : List ℕ) → length (loopWritten b) ≡ 2 + length b
+loop-length b = length-append (bytesOf 2 (0xF000 + length b)) b ∙ rw (length-bytesOf 2 (0xF000 + length b))
+
+pub loop-content : (b : List ℕ) → content (loopWritten b) ≡ b
+loop-content b = drop-at (bytesOf 2 (0xF000 + length b)) b 2 (length-bytesOf 2 (0xF000 + length b))
+
 loop-says : (b : List ℕ) → length b ≤ 4095 → (s : List ℕ) → loopSize (loopWritten b ++ s) ≡ length (loopWritten b)
 unfolding loopSize
 loop-says b h s =
     let e : numberAt 2 (loopWritten b ++ s) 0 ≡ (0xF000 + length b) % 256 ^ 2 =
     ap (λ (l : List ℕ). numberAt 2 l 0) (append-assoc (bytesOf 2 (0xF000 + length b)) b s)
     ∙ numberAt-bytesOf 2 (0xF000 + length b) [] (b ++ s) in
-    let l : length (loopWritten b) ≡ 2 + length b = length-append (bytesOf 2 (0xF000 + length b)) b
-    ∙ rw (length-bytesOf 2 (0xF000 + length b)) in
-    rw (e, l) (omega arith)
+    rw (e, loop-length b) (omega arith)
 
 loops-back : (ls : List (List ℕ)) → ((l : List ℕ) → List·Memᴰ l ls → length l ≤ 4095)
     → cutOf loopSize (flatten (map loopWritten ls)) ≡ record { pieces = map loopWritten ls; left = [] }
@@ -77,12 +81,7 @@ odd-map f (x ∷ xs) = ap not (odd-map f xs)
 
 written-filled : (ds : List (ℕ × List ℕ)) → filled (content (loopWritten (contentWritten ds))) ≡ true
 unfolding filled
-written-filled ds =
-    rw (
-      drop-at (bytesOf 2 (0xF000 + length (contentWritten ds))) (contentWritten ds) 2
-          (length-bytesOf 2 (0xF000 + length (contentWritten ds))),
-      descriptors-cut ds,
-    )
+written-filled ds = rw (loop-content (contentWritten ds), descriptors-cut ds)
 
 every-filled : (ls : List (List (ℕ × List ℕ))) → every (λ l. filled (content l)) (map loopWritten (map contentWritten ls)) ≡ true
 unfolding every both

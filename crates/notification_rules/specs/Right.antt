@@ -1,13 +1,14 @@
 -- What is right about the rules: theorems, shown in proofs/.
-use Prim.Native.Nat.{ℕ, _+_, _≤_}
+use Prim.Native.Nat.{ℕ, _+_, _*_, _≤_}
 use mathlib.Core.Path.{_≡_}
 use mathlib.Core.Bool.{true, false, not}
 use mathlib.Core.List.{List, [], _∷_, _++_, List·Memᴰ, flatten, map}
 use mathlib.Core.Logic.{_⊎_, _↔_}
 use lib.ListN.{length}
-use Rattle.wire.specs.Bytes.{byteAt, bytesOf}
+use lib.Bits.{bitXor}
+use Rattle.wire.specs.Bytes.{byteAt, bytesOf, bits}
 use Rattle.rules.specs.declared.Address.{Address}
-use Rattle.rules.specs.Section.{crcPlace}
+use Rattle.rules.specs.Section.{crcPlace, sealed}
 use Rattle.notification_rules.specs.declared.Notice.the-variants.{Found}
 use Rattle.wire.specs.Part.{Part}
 use Rattle.notification_rules.specs.Cut.{cutOf, isNil, any, odd}
@@ -123,6 +124,67 @@ WrittenFits =
     (front crc : List ℕ) (ls : List (List (ℕ × List ℕ))) → length front ≡ 12 → length crc ≡ 4
     → ((l : List ℕ) → List·Memᴰ l (map contentWritten ls) → length l ≤ 4095)
     → misfit (sectionWritten front (map contentWritten ls) crc) ≡ not (odd ls)
+
+-- ---- a section that is written as table 13 says is refused by nothing
+-- the descriptors of a loop, each a tag and bytes
+abbrev pub Descriptors : Type 0
+Descriptors = List (ℕ × List ℕ)
+
+-- what the writer is free to choose; a pair is a target loop and its operational loop
+pub record Notification : Type 0 where
+  pub version : ℕ
+  pub number : ℕ
+  pub last : ℕ
+  pub platformId : ℕ
+  pub order : ℕ
+  pub platform : Descriptors
+  pub pairs : List (Descriptors × Descriptors)
+
+-- the first 12 bytes: action_type is 0x01, reserved bits and current_next_indicator are ones
+unfoldable pub headWritten : Notification → ℕ → List ℕ
+headWritten n sectionLength =
+    0x4C
+    ∷ (0xF0 + bits 11 8 sectionLength)
+    ∷ bits 7 0 sectionLength
+    ∷ 0x01
+    ∷ bitXor (bitXor (bits 23 16 (n .platformId)) (bits 15 8 (n .platformId))) (bits 7 0 (n .platformId))
+    ∷ (0xC1 + 2 * n .version)
+    ∷ n .number
+    ∷ n .last
+    ∷ bits 23 16 (n .platformId)
+    ∷ bits 15 8 (n .platformId)
+    ∷ bits 7 0 (n .platformId)
+    ∷ n .order
+    ∷ []
+
+unfoldable pub byTurns : List (Descriptors × Descriptors) → List Descriptors
+byTurns [] = []
+byTurns (p ∷ ps) = p .0 ∷ p .1 ∷ byTurns ps
+
+-- the platform loop, then target and operational loop by turns
+abbrev pub loopsIn : Notification → List Descriptors
+loopsIn n = n .platform ∷ byTurns (n .pairs)
+
+-- the first 12 bytes, the loops, the CRC_32; section_length counts all but the first three bytes
+unfoldable pub notificationWritten : Notification → List ℕ
+notificationWritten n =
+    let loops : List ℕ = flatten (map loopWritten (map contentWritten (loopsIn n))) in
+    sealed (headWritten n (length loops + 13) ++ loops)
+
+-- a 0x07 holds a mask and addresses, a 0x0E pairs of addresses, a 0x13 nine bytes, any other tag what it will
+pub record RightLength (d : ℕ × List ℕ) : Type 0 where
+  pub masked : d .0 ≡ 0x07 → (k : ℕ) × (length (d .1) ≡ 6 + 6 * k)
+  pub ranges : d .0 ≡ 0x0E → (k : ℕ) × (length (d .1) ≡ 12 * k)
+  pub location : d .0 ≡ 0x13 → length (d .1) ≡ 9
+
+-- the numbers in order, a whole section of 4,096 bytes at most, and every descriptor of every loop of a right length
+pub record Sendable (n : Notification) : Type 0 where
+  pub ordered : n .number ≤ n .last
+  pub short : length (notificationWritten n) ≤ 4096
+  pub right : (l : Descriptors) → List·Memᴰ l (loopsIn n) → (d : ℕ × List ℕ) → List·Memᴰ d l → RightLength d
+
+abbrev pub WrittenIsTaken : Type 0
+WrittenIsTaken = (n : Notification) → Sendable n → refusal (notificationWritten n) ≡ 0
 
 -- a 0x07 covers by one of its addresses, under its mask; a 0x0E by one of its pairs
 abbrev pub MasksCover : Type 0
