@@ -10,7 +10,7 @@ use Rattle.rules.specs.Demand2.{Accepted, Demand2}
 use Rattle.rules.specs.Send.{defaultPiece, sectionCount}
 use Rattle.notification_rules.specs.declared.Notice.the-variants.{Found, Refused}
 use Rattle.notification_rules.specs.Notice.{refusal}
-use Rattle.notification_rules.specs.Right.{FirstAnswer, Notification, notificationWritten, Sendable}
+use Rattle.notification_rules.specs.Right.{FirstAnswer, Notification, notificationWritten, Conforms}
 use Rattle.pes_rules.specs.Written.{Bytes, IsWritten}
 use Rattle.demands.specs.Allowed.{Allowed}
 use Rattle.sender.proofs.send.Reads as send-reads
@@ -39,7 +39,7 @@ pub record Right : Type 0 where
       (λ κs a z e. refusal (now (a .1 .0)) ≡ 0 → (p : ℕ) → (z ≡ Found p) ↔ FirstAnswer (a .0) (now (a .1 .0)) p)
   -- a section that is written as table 13 says is not refused
   pub taken : Allowed 1 notice-kinds.ps notice-kinds.r notice-reads.Learnt
-      (λ κs a z e. (n : Notification) → Sendable n → now (a .1 .0) ≡ notificationWritten n → (k : ℕ) → z ≡ Refused k → ⊥)
+      (λ κs a z e. (n : Notification) → Conforms n → now (a .1 .0) ≡ notificationWritten n → (k : ℕ) → z ≡ Refused k → ⊥)
   -- a packet that is answered 5 is what table 1 writes for the values read
   pub pes : Allowed 1 pes-read-kinds.ps pes-read-kinds.r pes-read-reads.Learnt
       (λ κs a z e. Bytes (now (a .0)) → z .answer ≡ 5 → IsWritten (now (a .0)))

@@ -20,7 +20,7 @@ use Rattle.notification_rules.specs.Cut.{Cut, every, odd}
 use Rattle.notification_rules.specs.Loop.{actionType, platformIdHash, content, tag, bodyLength}
 use Rattle.notification_rules.specs.Target.{macAddress, macAddressRange, streamLocation, rightLength}
 use Rattle.notification_rules.specs.Notice.{notificationForm, otherAction, wrongHash, misfit, known, otherLength, platformLines, loopLines, refusal}
-use Rattle.notification_rules.specs.Right.{loopWritten, descriptorWritten, contentWritten, sectionWritten, Descriptors, Notification, headWritten, byTurns, loopsIn, notificationWritten, RightLength, Sendable, WrittenIsTaken}
+use Rattle.notification_rules.specs.Right.{loopWritten, descriptorWritten, contentWritten, sectionWritten, Descriptors, Notification, headWritten, byTurns, loopsIn, notificationWritten, RightLength, Conforms, WrittenIsTaken}
 use Rattle.notification_rules.proofs.Written.{descriptors-cut, loop-length, loop-content, loops-cut, written-fits}
 
 -- ---- lengths
@@ -79,7 +79,7 @@ turns-odd l [] = refl
 turns-odd l (p ∷ ps) = ap (λ (b : Bool). not (not b)) (turns-odd l ps)
 
 -- ---- none of the lines applies
-module _ (n : Notification) (t : Sendable n) where
+module _ (n : Notification) (t : Conforms n) where
   abbrev contents : List (List ℕ)
   contents = map contentWritten (loopsIn n)
 

@@ -178,13 +178,13 @@ pub record RightLength (d : ℕ × List ℕ) : Type 0 where
   pub location : d .0 ≡ 0x13 → length (d .1) ≡ 9
 
 -- the numbers in order, a whole section of 4,096 bytes at most, and every descriptor of every loop of a right length
-pub record Sendable (n : Notification) : Type 0 where
+pub record Conforms (n : Notification) : Type 0 where
   pub ordered : n .number ≤ n .last
   pub short : length (notificationWritten n) ≤ 4096
   pub right : (l : Descriptors) → List·Memᴰ l (loopsIn n) → (d : ℕ × List ℕ) → List·Memᴰ d l → RightLength d
 
 abbrev pub WrittenIsTaken : Type 0
-WrittenIsTaken = (n : Notification) → Sendable n → refusal (notificationWritten n) ≡ 0
+WrittenIsTaken = (n : Notification) → Conforms n → refusal (notificationWritten n) ≡ 0
 
 -- a 0x07 covers by one of its addresses, under its mask; a 0x0E by one of its pairs
 abbrev pub MasksCover : Type 0
