@@ -2,12 +2,12 @@
 use mathlib.Core.Path.{_≡_, refl, sym, ap, ap₂, _∙_}
 use mathlib.Core.List.{List, [], _∷_, _++_}
 use Prim.Native.Nat.{ℕ, zero, suc, _+_, _*_, _/_, _%_, _^_, _-_, _≤_, _<_}
-use native.Mathlib.Nat.{le-of-eq, mod-lt, mod-eq-of-lt, le-of-suc-le-suc, not-suc-le-zero}
+use native.Mathlib.Nat.{mod-lt, mod-eq-of-lt, le-of-suc-le-suc, not-suc-le-zero}
 use native.Mathlib.Omega.{arith}
 use lib.ListN.{length, take, drop, length-drop}
-use lib.Seq.{take-all}
 use lib.Bits.{bitXor, xor-zero-r, xor-self, xor-mod}
 use lib.Pow.{pow-pos}
+use Rattle.wire.proofs.Lists.{from}
 use Rattle.rules.specs.Crc.{crcBits}
 use Rattle.rules.proofs.Crc.{xor-four, crcBits-lt, crcBits-add}
 use Rattle.crc.specs.Words.{number, words, crcWords, crcAfter}
@@ -110,9 +110,6 @@ first-word s h =
 abbrev pub Stands : ℕ → List ℕ → List ℕ → ℕ → Type 0
 Stands v zs s r = (8 ≤ length s) × (v < 2 ^ 64) × (crcAfter v zs s ≡ r)
 
-pub tail : (k : ℕ) (s : List ℕ) → take (length s - k) (drop k s) ≡ drop k s
-tail k s = take-all (length s - k) (drop k s) (le-of-eq (length-drop k s))
-
 pub turn : (mss : List (List Shift)) → atBits (leaves mss) 64 ≡ 0 → (v : ℕ) (zs ys s : List ℕ) {r x y : ℕ}
     → Stands v zs s r → 16 ≤ length s → length mss * 8 ≤ length s → spread mss zs v ≡ y ∷ ys
     → (x ≡ bitXor (number 8 s) y) × (x < 2 ^ 64) → Stands x ys (take (length s - 8) (drop 8 s)) r
@@ -122,9 +119,9 @@ turn mss basis v zs ys s {r} {x} {y} (h8, hv, g) h16 h e (ex, hx) =
     let small : c < 2 ^ 32 = crcBits-lt 64 0 v none in
     let ws : List ℕ = words (length s / 8) s in
     let fits : length mss ≤ length ws = omega (arith, h, length-words (length s / 8) s) in (
-      omega (arith, h16, ap length (tail 8 s), length-drop 8 s),
+      omega (arith, h16, ap length (from 8 s), length-drop 8 s),
       hx,
-      ap₂ (λ x t. crcAfter x ys t) ex (tail 8 s) ∙ sym (ap (crcWords 0 (y ∷ ys)) (first-word s h8))
+      ap₂ (λ x t. crcAfter x ys t) ex (from 8 s) ∙ sym (ap (crcWords 0 (y ∷ ys)) (first-word s h8))
           ∙ ap (λ l. crcWords 0 l ws) (sym e) ∙ ap (λ x. crcWords x (spread mss zs v) ws) (sym (xor-self c))
           ∙ cancel v mss zs ws c c small small fits (vanishes (leaves mss) (leaves-add mss) 64 basis v hv) ∙ g,
     )

@@ -14,7 +14,8 @@ use Rattle.notification_rules.specs.Cut.{Cut, stop, more, cutOf, isNil, every, 
 use Rattle.notification_rules.specs.Loop.{loopSize, descriptorSize, checked, loopCut, content, filled}
 use Rattle.notification_rules.specs.Target.{rightLength}
 use Rattle.notification_rules.specs.Notice.{known, loopLines, misfit, otherLength, fits}
-use Rattle.notification_rules.proofs.Cuts.{from, nil-true, nil-false}
+use Rattle.wire.proofs.Lists.{from}
+use Rattle.notification_rules.proofs.Cuts.{nil-true, nil-false}
 use Rattle.notification_rules.proofs.Pieces.{descriptor-two, loop-two, filled-stop, filled-more, known-stop, known-more, loops-stop, loops-more}
 use Rattle.notification.specs.Readers.{descriptorFault, fitsBy, loopFault}
 

@@ -12,13 +12,14 @@ use borrow.Author.Tests.{lt-ltb, le-ltb, ne-eqb, not-false}
 use denote.Ref.{RefT, now}
 use Rattle.wire.specs.Bytes.{byteAt}
 use Rattle.wire.specs.Choice.{pick, both, either}
-use Rattle.wire.proofs.Choice.{never}
+use Rattle.wire.proofs.Choice.{both-right, never}
 use Rattle.rules.specs.declared.Address.{Address}
 use Rattle.wire.specs.Part.{part}
 use Rattle.notification_rules.specs.Cut.{Cut, cutOf, stop, more, isNil, any, odd, placed}
 use Rattle.notification_rules.specs.Loop.{loopSize, descriptorSize, content, Pair, pairsOf, descriptorsOf, descriptorPieces}
 use Rattle.notification_rules.specs.Target.{Location, nowhere, at, located, isLocation, isCover, coverOf, covers, hit, entrySize, entryBytes, firstPair}
-use Rattle.notification_rules.proofs.Cuts.{from, nil-true, nil-false, nil-length}
+use Rattle.wire.proofs.Lists.{from}
+use Rattle.notification_rules.proofs.Cuts.{nil-true, nil-false, nil-length}
 use Rattle.notification_rules.proofs.Pieces.{loop-two, loops-stop, loops-more, stops, goes-on, descriptors-stop, descriptors-more, covered-any}
 use Rattle.notification.proofs.Faults.{drop-take}
 use Rattle.notification.specs.Readers.{loopAt, Located, Turns, pairsFrom, pairAt, answersBy, choiceAt}
@@ -155,12 +156,7 @@ module _ (device : Address) (general : Bool) (s : List ℕ) (o n : ℕ) (e : n �
 
   pub answers-some : (length x ≡ 0 → ⊥) → b ≡ true → (k : Bool) → any (covers device) (descriptorPieces x) ≡ k
       → answersBy device general (pairAt s o) ≡ k
-  unfolding both
-  answers-some z h k a = answers-by k (cover-some z ∙ a) ∙ rw h (and-true k)
-    where
-      and-true : (k : Bool) → both k true ≡ k
-      and-true true = refl
-      and-true false = refl
+  answers-some z h k a = answers-by k (cover-some z ∙ a) ∙ rw h (both-right k)
 
   pub answers-nowhere : b ≡ false → answersBy device general (pairAt s o) ≡ false
   unfolding both

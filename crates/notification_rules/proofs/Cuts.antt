@@ -4,17 +4,12 @@ use mathlib.Core.Path.{_≡_, refl, sym, ap, _∙_}
 use mathlib.Core.Bool.{Bool, true, false}
 use mathlib.Core.List.{List, [], _∷_}
 use lib.ListN.{length, take, drop, length-drop}
-use lib.Seq.{take-all}
 use lib.Dec.{leb, ltb}
 use borrow.Author.Tests.{lt-ltb, le-leb, lt-leb, ltb-true, leb-true}
 use native.Mathlib.Omega.{arith}
 use Rattle.wire.specs.Choice.{pick, both}
-use Rattle.wire.proofs.Choice.{never}
+use Rattle.wire.proofs.Choice.{both-true, never}
 use Rattle.notification_rules.specs.Cut.{Size, stop, more, whole, run, cutOf, isNil}
-
--- the part of a slice from k on is what `drop k` leaves
-pub from : (k : ℕ) (s : List ℕ) → take (length s - k) (drop k s) ≡ drop k s
-from k s = take-all (length s - k) (drop k s) (simp length-drop (omega arith))
 
 pub nil-true : (s : List ℕ) → length s ≡ 0 → isNil s ≡ true
 nil-true [] h = refl
@@ -28,11 +23,6 @@ pub nil-length : (s : List ℕ) → isNil s ≡ true → length s ≡ 0
 nil-length [] h = refl
 nil-length (x ∷ s) h = absurd (never h)
 
-pub both-yes : (t u : Bool) → both t u ≡ true → (t ≡ true) × (u ≡ true)
-unfolding both
-both-yes true u h = (refl, h)
-both-yes false u h = absurd (never h)
-
 module _ (size : Size) where
   pub whole-yes : (s : List ℕ) → 0 < size s → size s ≤ length s → whole size s ≡ true
   unfolding whole both
@@ -45,7 +35,7 @@ module _ (size : Size) where
   pub whole-true : (s : List ℕ) → whole size s ≡ true → (0 < size s) × (size s ≤ length s)
   unfolding whole
   whole-true s h =
-      let p = both-yes (ltb 0 (size s)) (leb (size s) (length s)) h in
+      let p = both-true (ltb 0 (size s)) (leb (size s) (length s)) h in
       (ltb-true 0 (size s) (p .0), leb-true (size s) (length s) (p .1))
 
   run-stop : (k : ℕ) (s : List ℕ) → whole size s ≡ false → run size k s ≡ stop s

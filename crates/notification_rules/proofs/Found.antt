@@ -8,7 +8,7 @@ use mathlib.Core.List.{List, [], _∷_, _++_, List·Memᴰ, List·Memᴰ·head, 
 use lib.Dec.{eqb}
 use borrow.Author.Tests.{eq-eqb, ne-eqb, eqb-true, eqb-false}
 use Rattle.wire.specs.Choice.{pick, both}
-use Rattle.wire.proofs.Choice.{never}
+use Rattle.wire.proofs.Choice.{both-true, never}
 use Rattle.rules.specs.declared.Address.{Address}
 use Rattle.notification_rules.specs.declared.Notice.the-variants.{Found, Refused}
 use Rattle.wire.specs.Part.{Part}
@@ -16,7 +16,6 @@ use Rattle.notification_rules.specs.Cut.{isNil}
 use Rattle.notification_rules.specs.Loop.{loopsOf, content, tag, descriptorsOf, Pair, pairsOf}
 use Rattle.notification_rules.specs.Target.{streamLocation, covers, by, coverFrom, Location, nowhere, at, located, isLocation, orElse, locationOf, isCover, coverOf, answers, Choice, none, one, firstPair}
 use Rattle.notification_rules.specs.Notice.{refusal, found, chosen, searched, noticeOf}
-use Rattle.notification_rules.proofs.Cuts.{both-yes}
 use Rattle.notification_rules.specs.Right.{Covering, NoLocation, FirstLocation, FirstAnswer, FoundExactly}
 
 -- ---- the first that passes a test
@@ -249,7 +248,7 @@ found-first device s p (platform ∷ loops) e h = go (firstPair (answers device 
     go none q h = absurd (let z : _≡_ {A = ℕ} 0 1 = cc in omega arith)
     go (one x) q h =
         let r = first-is _ (pairsOf loops) x q in
-        let y = both-yes _ _ (r .passes) in
+        let y = both-true _ _ (r .passes) in
         let d = found-place (locationOf platform x) p h in
         record {
           platform = platform;

@@ -2,12 +2,13 @@
 use Prim.Native.Nat.{ℕ, _+_, _-_, _%_, _^_, _≤_, _<_}
 use native.Mathlib.Omega.{arith}
 use mathlib.Core.Path.{_≡_, refl, sym, ap, ap₂, _∙_}
-use mathlib.Core.Bool.{Bool, true, false, not}
+use mathlib.Core.Bool.{true, not}
 use mathlib.Core.List.{List, [], _∷_, _++_, append-assoc, flatten, map, List·Memᴰ, List·Memᴰ·head, List·Memᴰ·tail}
 use lib.ListN.{length, take, length-append}
 use lib.Seq.{take-at, drop-at}
 use Rattle.wire.specs.Bytes.{numberAt, bytesOf}
 use Rattle.wire.proofs.Bytes.{length-bytesOf, numberAt-bytesOf}
+use Rattle.wire.proofs.Choice.{both-right}
 use Rattle.wire.specs.Choice.{both}
 use Rattle.notification_rules.specs.Cut.{Size, cutOf, every, odd}
 use Rattle.notification_rules.specs.Loop.{descriptorSize, loopSize, loopCut, content, filled}
@@ -88,14 +89,9 @@ unfolding every both
 every-filled [] = refl
 every-filled (l ∷ ls) = rw (written-filled l) (every-filled ls)
 
-both-true : (b : Bool) → both b true ≡ b
-unfolding both
-both-true true = refl
-both-true false = refl
-
 pub written-fits : WrittenFits
 unfolding misfit fits both
 written-fits front crc ls f c h =
     let o : odd (map loopWritten (map contentWritten ls)) ≡ odd ls = odd-map loopWritten (map contentWritten ls)
     ∙ odd-map contentWritten ls in
-    ap not (ap fits (loops-cut front crc (map contentWritten ls) f c h) ∙ ap₂ both o (every-filled ls) ∙ both-true (odd ls))
+    ap not (ap fits (loops-cut front crc (map contentWritten ls) f c h) ∙ ap₂ both o (every-filled ls) ∙ both-right (odd ls))

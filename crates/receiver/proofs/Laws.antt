@@ -2,7 +2,7 @@
 use Prim.Native.Nat.{ℕ, _+_, _-_, _≤_}
 use native.Mathlib.Decide.{decLe}
 use native.Mathlib.Omega.{arith}
-use mathlib.Core.Path.{_≡_, refl, sym, _∙_}
+use mathlib.Core.Path.{_≡_, sym, _∙_}
 use mathlib.Core.List.{List, _++_, append-assoc, append-nil}
 use mathlib.Core.Bool.{Bool, true, false}
 use lib.Dec.{leb}
@@ -11,7 +11,7 @@ use lib.Seq.{paste, drop-drop, take-all, take-length}
 use borrow.Author.Tests.{eq-eqb, ne-eqb, le-leb, lt-leb, leb-true}
 use Rattle.wire.specs.Bytes.{over}
 use Rattle.wire.specs.Choice.{pick, both, Line, firstOf}
-use Rattle.wire.proofs.Choice.{never}
+use Rattle.wire.proofs.Choice.{both-true}
 use Rattle.rules.specs.declared.Step.{Step}
 use Rattle.rules.specs.Step.{Outcome, Does, refuse, refuseFirst}
 
@@ -53,11 +53,6 @@ leb-shift f n m h = go (decLe (f + n) m)
     go : Dec (f + n ≤ m) → leb n (m - f) ≡ leb (f + n) m
     go (yes k) = le-leb n (m - f) (omega arith) ∙ sym (le-leb (f + n) m k)
     go (no k) = lt-leb n (m - f) (omega arith) ∙ sym (lt-leb (f + n) m (omega arith))
-
-pub both-true : (t u : Bool) → both t u ≡ true → (t ≡ true) × (u ≡ true)
-unfolding both
-both-true true u e = (refl, e)
-both-true false u e = absurd (never e)
 
 -- the next number of a run whose numbers are good is small
 pub next-small : (e l : ℕ) → both (leb 1 e) (both (leb e l) (leb l 254)) ≡ true → e ≤ 254

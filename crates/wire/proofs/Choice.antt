@@ -83,6 +83,12 @@ unfolding both
 both-true true u p = (refl, p)
 both-true false u p = absurd (never p)
 
+-- the second test holds
+pub both-right : (t : Bool) → both t true ≡ t
+unfolding both
+both-right true = refl
+both-right false = refl
+
 pub either-false : (t u : Bool) → either t u ≡ false → (t ≡ false) × (u ≡ false)
 unfolding either
 either-false true u p = absurd (never (sym p))

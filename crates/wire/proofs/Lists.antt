@@ -1,13 +1,17 @@
 -- Parts of lists put side by side: each law is the library's on `take` and `drop`, at the lengths that the code has.
-use Prim.Native.Nat.{ℕ, suc, _+_, _≤_, _<_, min}
+use Prim.Native.Nat.{ℕ, suc, _+_, _-_, _≤_, _<_, min}
 use native.Mathlib.Decide.{decLe}
 use native.Mathlib.Numerals.{add-one}
 use native.Mathlib.Omega.{arith}
 use mathlib.Core.Path.{_≡_}
 use mathlib.Core.List.{List, _++_}
-use lib.ListN.{length, getD, set, take, drop, drop-of-length-le}
+use lib.ListN.{length, getD, set, take, drop, drop-of-length-le, length-drop}
 use lib.Seq.{append-snoc, drop-cons, length-take-le, set-at, take-all, take-length, take-suc, drop-length}
 use Rattle.wire.specs.Bytes.{over}
+
+-- the part of a slice from k on is what `drop k` leaves
+pub from : (k : ℕ) (s : List ℕ) → take (length s - k) (drop k s) ≡ drop k s
+from k s = take-all (length s - k) (drop k s) (simp length-drop (omega arith))
 
 -- one byte more of s over d
 pub over-step : (s d : List ℕ) (i : ℕ) → i < length s → i < length d

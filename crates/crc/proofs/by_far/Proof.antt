@@ -5,10 +5,11 @@ use Prim.Native.Nat.{_-_, _≤_}
 use native.Mathlib.Omega.{arith}
 use borrow.Author.Needs.{needs}
 use lib.ListN.{length, take, drop, length-drop}
+use Rattle.wire.proofs.Lists.{from}
 use Rattle.crc.specs.Words.{crcAfter}
 use Rattle.crc.proofs.Shifts.{added, moved}
 use Rattle.crc.proofs.Basis.{far, far-leaves}
-use Rattle.crc.proofs.Clear.{spread, Stands, tail, turn, one-more}
+use Rattle.crc.proofs.Clear.{spread, Stands, turn, one-more}
 use Rattle.crc.proofs.by_far.Statement.{statement}
 use Rattle.crc.proofs.by_far.Tie as tie
 
@@ -57,7 +58,7 @@ loop-again c =
     let l = c .before .before .before .before .before .loop in
     let s = l .rest .now in
     let enough = c .before .before .before .before .loop-test .taken in
-    let after : length (take (length s - 8) (drop 8 s)) ≡ length (drop 8 s) = ap length (tail 8 s) in
+    let after : length (take (length s - 8) (drop 8 s)) ≡ length (drop 8 s) = ap length (from 8 s) in
     let left : 40 ≤ length (take (length s - 8) (drop 8 s)) = omega (arith, enough, after, length-drop 8 s) in
     turn far far-leaves _ _ _ _
     (turn far far-leaves (l .v) (l .z1 ∷ l .z2 ∷ l .z3 ∷ l .z4 ∷ []) _ s (l .inv) (omega (arith, enough))

@@ -5,7 +5,7 @@ use native.Mathlib.Omega.{arith}
 use lib.ListN.{length}
 use Rattle.crc.specs.Words.{crcAfter}
 use Rattle.crc.proofs.Basis.{onesBefore, onesAfter}
-use Rattle.crc.proofs.Clear.{tail}
+use Rattle.wire.proofs.Lists.{from}
 use Rattle.crc.proofs.Bytes.{short-law, long-law}
 use borrow.Author.Needs.{needs}
 use Rattle.crc.proofs.register.Statement.{statement}
@@ -59,7 +59,7 @@ unfolding onesBefore onesAfter
 returns-2 c =
     let s = c .before .before .before .before .before .args .s .now in
     long-law (length s % 8) (omega arith) s (omega (arith, c .before .before .if1 .left)) refl
-    (c .before .before .before .read .ensures) (c .by-far .ensures ∙ ap (crcAfter _ _) (tail (length s % 8) s))
+    (c .before .before .before .read .ensures) (c .by-far .ensures ∙ ap (crcAfter _ _) (from (length s % 8) s))
 
 pub register-spec : {M : Type 1} → statement M
 register-spec =

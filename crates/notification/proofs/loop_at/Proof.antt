@@ -1,7 +1,7 @@
 -- The loop at the place begins with its two length bytes.
 use Rattle.notification.proofs.Pairs.{content-at, content-length}
 use Rattle.notification_rules.proofs.Pieces.{loop-two}
-use Rattle.notification_rules.proofs.Cuts.{from}
+use Rattle.wire.proofs.Lists.{from}
 use Rattle.notification_rules.specs.Loop.{loopSize}
 use denote.Ref.{now}
 use lib.ListN.{drop}

@@ -2,7 +2,7 @@
 use Rattle.notification.proofs.Pairs.{first-whole, second-whole, next-turns, skips, hits, ends, located-test, answers-empty, answers-some, answers-nowhere, no-descriptor, descriptor-hit, descriptor-miss, no-entry, entry-hit, entry-miss, covers-by}
 use Rattle.notification.specs.Readers.{Turns, pairsFrom, pairAt, answersBy}
 use Rattle.notification_rules.proofs.Pieces.{descriptor-two, entry-some}
-use Rattle.notification_rules.proofs.Cuts.{from}
+use Rattle.wire.proofs.Lists.{from}
 use Rattle.notification_rules.specs.Target.{covers, hit, firstPair}
 use Rattle.notification_rules.specs.Loop.{loopSize, descriptorPieces}
 use Rattle.notification_rules.specs.Cut.{cutOf, any}

@@ -1,6 +1,6 @@
 -- The descriptor at the front is a 0x13, or the first one of the rest is it, which stands as many bytes later.
 use Rattle.notification_rules.proofs.Pieces.{descriptor-two}
-use Rattle.notification_rules.proofs.Cuts.{from}
+use Rattle.wire.proofs.Lists.{from}
 use Rattle.wire.proofs.Choice.{was}
 use Rattle.notification.proofs.Locations.{reaches-end, reaches-here, reaches-more}
 use denote.Ref.{now}

@@ -1,6 +1,6 @@
 -- The descriptor at the front, and the rest, which is shorter by at least two bytes.
 use Rattle.notification_rules.proofs.Pieces.{descriptor-two}
-use Rattle.notification_rules.proofs.Cuts.{from}
+use Rattle.wire.proofs.Lists.{from}
 use Rattle.notification.proofs.Faults.{fault-end, fault-stop, fault-more}
 use denote.Ref.{now}
 use mathlib.Core.Path.{_∙_}

@@ -1,6 +1,6 @@
 -- The loop at the front, and the rest, which is shorter by at least two bytes.
 use Rattle.notification_rules.proofs.Pieces.{loop-two}
-use Rattle.notification_rules.proofs.Cuts.{from}
+use Rattle.wire.proofs.Lists.{from}
 use Rattle.notification.proofs.Faults.{loops-end, loops-short, loops-missing, loops-bad, loops-on}
 use mathlib.Core.Bool.{true, false}
 use denote.Ref.{now}

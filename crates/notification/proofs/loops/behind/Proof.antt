@@ -1,7 +1,7 @@
 -- The part from k on is what `drop k` leaves, and it begins k bytes later.
 use lib.ListN.{length, drop-of-length-le}
 use Prim.Native.Nat.{_≤_}
-use Rattle.notification_rules.proofs.Cuts.{from}
+use Rattle.wire.proofs.Lists.{from}
 use denote.Ref.{now}
 use lib.ListN.{drop-of-length-le}
 use mathlib.Core.Path.{refl, sym}
