@@ -61,6 +61,33 @@ pub fn read(device: [u8; 6], section: &[u8]) -> Answer {
     }
 }
 
+/// The fields of a section that [`read`] answers by 3 or 4, as one line: those of the header, then
+/// each loop's length and its descriptors' tags and lengths.
+pub fn fields(section: &[u8]) -> Option<String> {
+    if header_fault(section) != 0 {
+        return None;
+    }
+    let body = Body::read(section).filter(Body::known_lengths_are_right)?;
+    let mut line = format!(
+        "action_type {:02X} platform_id_hash {:02X} platform_id {:02X}{:02X}{:02X} processing_order {:02X}",
+        section[3], section[4], section[8], section[9], section[10], section[11]
+    );
+    line += &loop_fields("platform", &body.platform);
+    for pair in &body.pairs {
+        line += &loop_fields("target", &pair.target);
+        line += &loop_fields("operational", &pair.operational);
+    }
+    Some(line)
+}
+
+fn loop_fields(name: &str, descriptors: &Loop) -> String {
+    let length: usize = descriptors.iter().map(|each| 2 + each.bytes.len()).sum();
+    let each = descriptors
+        .iter()
+        .map(|each| format!(" {:02X}/{}", each.tag, each.bytes.len()));
+    format!(" {name} {length}:{}", each.collect::<String>())
+}
+
 /// The first of 12 to 18, 30 and 31 that applies, else 0.
 fn header_fault(section: &[u8]) -> u8 {
     if section.len() < SHORTEST {
@@ -207,7 +234,7 @@ fn location(descriptors: &Loop) -> Option<usize> {
 #[cfg(test)]
 mod tests {
     use super::*;
-    use crate::generator::notifications::{any_notification, faulty, CHECKS};
+    use crate::generator::notifications::{any_notification, faulty, with_loops, CHECKS};
     use crate::generator::subsets;
     use crate::random::Random;
     use crate::telling::notifications;
@@ -234,6 +261,20 @@ mod tests {
                 }
             }
         }
+    }
+
+    #[test]
+    fn fields_are_told_of_sections_that_are_answered() {
+        let loops: [&[u8]; 3] = [b"", b"\x80\x00\x07\x06\0\0\0\0\0\0", b"\x13\x09location!"];
+        let section = with_loops(&loops.map(<[u8]>::to_vec));
+        assert_eq!(
+            fields(&section).as_deref(),
+            Some(
+                "action_type 01 platform_id_hash 07 platform_id 010204 processing_order 00 \
+                 platform 0: target 10: 80/0 07/6 operational 11: 13/9"
+            )
+        );
+        assert_eq!(fields(&section[1..]), None);
     }
 
     #[test]

@@ -47,7 +47,7 @@ fn read_input(buffer: &mut [u8]) -> Input
 fn archive(unit: &[u8], out: &mut [u8]) -> Sending
     ensures { λ r. ⌜ Sends (sentOf listingSettings false defaultPiece (now (unit .entry)) (now (out .entry))) r (now (out .exit)) ⌝ }
 {
-    sender::send_by_default(section::settings::listing_settings(), false, unit, out)
+    sender::send_by_default(settings::listing_settings(), false, unit, out)
 }
 
 fn answer(unit: &[u8], out: &mut [u8]) {

@@ -13,6 +13,7 @@ tight =
       both = λ κs a z y e d p q. p ∙ sym q;
       either = λ κs a z y e d p q. p ∙ sym q;
       first = λ κs a z y e d p q. p ∙ sym q;
+      copy = λ κs a z y e d p q. p ∙ sym q;
       crc-32 = λ κs a z y e d p q. p ∙ sym q;
       section-length = λ κs a z y e d p q. p .is ∙ sym (q .is);
       section-number = λ κs a z y e d p q. p ∙ sym q;
@@ -21,26 +22,44 @@ tight =
       llc-snap-flag = λ κs a z y e d p q. p ∙ sym q;
       address = λ κs a z y e d p q. p ∙ sym q;
       same-address = λ κs a z y e d p q. p ∙ sym q;
+      offer-length = λ κs a z y e d p q. p ∙ sym q;
       header = λ κs a z y e d p q. p ∙ sym q;
+      good-settings = λ κs a z y e d p q. p ∙ sym q;
+      listing-settings = λ κs a z y e d p q. p ∙ sym q;
       fault = λ κs a z y e d p q. p ∙ sym q;
       check = λ κs a z y e d p q. p ∙ sym q;
-      copy = λ κs a z y e d p q. p ∙ sym q;
       receive = λ κs a z y e d p q. (p .step ∙ sym (q .step), p .buffer ∙ sym (q .buffer));
+      gap = λ κs a z y e d p q. p ∙ sym q;
+      send = λ κs a z y e d p q. (p .sending ∙ sym (q .sending), p .output ∙ sym (q .output));
+      send-by-default = λ κs a z y e d p q. (p .sending ∙ sym (q .sending), p .output ∙ sym (q .output));
+      notification-read = λ κs a z y e d p q. (
+        p .number ∙ sym (q .number),
+        p .part .bytes ∙ sym (q .part .bytes),
+        p .part .block ∙ sym (q .part .block),
+        p .part .place ∙ sym (q .part .place),
+      );
+      notice = λ κs a z y e d p q. p ∙ sym q;
       pes-read = λ κs a z y e d p q. p ∙ sym q;
       pes-data = λ κs a z y e d p q. (p .bytes ∙ sym (q .bytes), p .block ∙ sym (q .block), p .place ∙ sym (q .place));
+      number-of = λ κs a z y e d p q. p ∙ sym q;
+      length-of = λ κs a z y e d p q. p ∙ sym q;
+      sending-number = λ κs a z y e d p q. p ∙ sym q;
+      sending-length = λ κs a z y e d p q. p ∙ sym q;
+      notice-number = λ κs a z y e d p q. p ∙ sym q;
+      notice-place = λ κs a z y e d p q. p ∙ sym q;
+      address-of = λ κs a z y e d p q. p ∙ sym q;
+      settings-of = λ κs a z y e d p q. p ∙ sym q;
+      state-of = λ κs a z y e d p q. p ∙ sym q;
+      put = λ κs a z y e d p q. p ∙ sym q;
       fossknut-crc-32 = λ κs a z y e d p q. p ∙ sym q;
       fossknut-check = λ κs a z y e d p q. p ∙ sym q;
       fossknut-receive = λ κs a z y e d p q.
           (p .answer ∙ sym (q .answer), p .state ∙ sym (q .state), p .buffer ∙ sym (q .buffer), p .unit ∙ sym (q .unit));
       fossknut-gap = λ κs a z y e d p q. p ∙ sym q;
-      good-settings = λ κs a z y e d p q. p ∙ sym q;
-      send = λ κs a z y e d p q. (p .sending ∙ sym (q .sending), p .output ∙ sym (q .output));
-      send-by-default = λ κs a z y e d p q. (p .sending ∙ sym (q .sending), p .output ∙ sym (q .output));
-      sender-number-of = λ κs a z y e d p q. p ∙ sym q;
-      sender-length-of = λ κs a z y e d p q. p ∙ sym q;
       fossknut-send = λ κs a z y e d p q. (p .number ∙ sym (q .number), p .output ∙ sym (q .output), p .length ∙ sym (q .length));
       fossknut-send-by-default = λ κs a z y e d p q.
           (p .number ∙ sym (q .number), p .output ∙ sym (q .output), p .length ∙ sym (q .length));
+      fossknut-notification = λ κs a z y e d p q. (p .number ∙ sym (q .number), p .place ∙ sym (q .place));
       fossknut-pes = λ κs a z y e d p q. (
         p .answer ∙ sym (q .answer),
         p .extended ∙ sym (q .extended),
@@ -50,19 +69,4 @@ tight =
         p .start ∙ sym (q .start),
         p .length ∙ sym (q .length),
       );
-      notification-read = λ κs a z y e d p q. (
-        p .number ∙ sym (q .number),
-        p .part .bytes ∙ sym (q .part .bytes),
-        p .part .block ∙ sym (q .part .block),
-        p .part .place ∙ sym (q .part .place),
-      );
-      notice = λ κs a z y e d p q. p ∙ sym q;
-      notice-number-of = λ κs a z y e d p q. p ∙ sym q;
-      notice-place-of = λ κs a z y e d p q. p ∙ sym q;
-      fossknut-notification = λ κs a z y e d p q. (p .number ∙ sym (q .number), p .place ∙ sym (q .place));
-      listing-settings = λ κs a z y e d p q. p ∙ sym q;
-      offer-length = λ κs a z y e d p q. p ∙ sym q;
-      gap = λ κs a z y e d p q. p ∙ sym q;
-      number-of = λ κs a z y e d p q. p ∙ sym q;
-      length-of = λ κs a z y e d p q. p ∙ sym q;
     }

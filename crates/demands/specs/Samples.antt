@@ -14,7 +14,7 @@ use Rattle.rules.specs.Step.{lengthOf, numberOf, Outcome, stepOf}
 use Rattle.rules.specs.Row.{Event, fresh, gap, Held, next, section}
 use Rattle.pes_rules.specs.declared.Reading.{Reading}
 use Rattle.pes_rules.specs.Packet.{dataOf, readOf}
-use Rattle.notification_rules.specs.Notice.{noticeOf, numberOf as noticeNumber}
+use Rattle.notification_rules.specs.Notice.{noticeOf, noticeNumber}
 
 -- ---- the bench
 -- the settings of the listing

@@ -6,7 +6,7 @@ use Rattle.rules.specs.declared.Sending.{Sending}
 use Rattle.rules.specs.declared.Step.{Step}
 use Rattle.rules.specs.Send.{SendOutcome, sendingNumber, sendingLength, Sends}
 use Rattle.rules.specs.Step.{Outcome, Does, numberOf, lengthOf}
-use Rattle.exports.specs.Numbers.{Numbers, numbersOf}
+use Rattle.numbers.specs.Numbers.{Numbers, numbersOf}
 use Rattle.exports.specs.Given.{Given, Gives}
 
 pub given : {r l : ℕ} {n : Numbers} {b : List ℕ} (o : Outcome) (t : Step)

@@ -5,9 +5,9 @@ use mathlib.Core.List.{List}
 use Rattle.rules.specs.Send.{SendOutcome, sendingNumber, sendingLength}
 use Rattle.rules.specs.Step.{Outcome, numberOf, lengthOf}
 use Rattle.notification_rules.specs.declared.Notice.{Notice}
-use Rattle.notification_rules.specs.Notice.{numberOf as noticeNumber, placeOf}
+use Rattle.notification_rules.specs.Notice.{noticeNumber, noticePlace}
 use Rattle.pes_rules.specs.declared.Reading.{Reading}
-use Rattle.exports.specs.Numbers.{flagNumber, Numbers, numbersOf}
+use Rattle.numbers.specs.Numbers.{flagNumber, Numbers, numbersOf}
 
 -- of the receiver: the answer's number, the unit length, the numbers of the state, and the buffer
 pub record Given (o : Outcome) (r l : ℕ) (n : Numbers) (b : List ℕ) : Type 0 where
@@ -25,7 +25,7 @@ pub record Gives (o : SendOutcome) (r l : ℕ) (out : List ℕ) : Type 0 where
 -- of the INT reader: the number and the place
 pub record Noticed (o : Notice) (r p : ℕ) : Type 0 where
   pub number : r ≡ noticeNumber o
-  pub place : p ≡ placeOf o
+  pub place : p ≡ noticePlace o
 
 -- of the PES reader: the answer, both flags, both values, and the place and the length of the data
 pub record Told (o : Reading) (r e d x v p n : ℕ) : Type 0 where

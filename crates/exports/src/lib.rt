@@ -1,6 +1,4 @@
 // What the Rust box links: functions on numbers and byte slices only. A slice passes as a pointer and then a length.
-mod numbers;
-
 use numbers::address_of;
 use numbers::put;
 use numbers::settings_of;
@@ -10,7 +8,7 @@ ghost use Rattle.rules.specs.Check.{check};
 ghost use Rattle.rules.specs.Crc.{crc32};
 ghost use Rattle.rules.specs.Send.{sentOf, defaultPiece};
 ghost use Rattle.rules.specs.Step.{stepOf, gapOf};
-ghost use Rattle.exports.specs.Numbers.{addressOf, settingsOf, flagOf, numbers, stateOf, numbersOf};
+ghost use Rattle.numbers.specs.Numbers.{addressOf, settingsOf, flagOf, numbers, stateOf, numbersOf};
 ghost use Rattle.exports.specs.Given.{Given, Gives, Noticed, Told};
 ghost use Rattle.notification_rules.specs.Notice.{noticeOf};
 ghost use Rattle.pes_rules.specs.Packet.{readOf};
@@ -73,8 +71,8 @@ pub extern "C" fn fossknut_receive(
     let answer = step.answer;
     let state = step.state;
     put(state, run, next, last, filled, flag);
-    *length = receiver::length_of(answer);
-    receiver::number_of(answer)
+    *length = answers::length_of(answer);
+    answers::number_of(answer)
 }
 
 // A gap notice: the numbers become those of the idle state.
@@ -116,8 +114,8 @@ pub extern "C" fn fossknut_send(
 {
     let settings = settings_of(mac1, mac2, mac3, mac4, mac5, mac6, range, limit);
     let sending = sender::send(settings, flag != 0, size, unit, out);
-    *length = sender::length_of(sending);
-    sender::number_of(sending)
+    *length = answers::sending_length(sending);
+    answers::sending_number(sending)
 }
 
 // The same with no piece size given.
@@ -141,8 +139,8 @@ pub extern "C" fn fossknut_send_by_default(
 {
     let settings = settings_of(mac1, mac2, mac3, mac4, mac5, mac6, range, limit);
     let sending = sender::send_by_default(settings, flag != 0, unit, out);
-    *length = sender::length_of(sending);
-    sender::number_of(sending)
+    *length = answers::sending_length(sending);
+    answers::sending_number(sending)
 }
 
 // The INT reader for the device with this address in printed order. With 3 the nine bytes stand at `place` in the section; with any other
@@ -161,8 +159,8 @@ pub extern "C" fn fossknut_notification(
     ensures { λ r. ⌜ Noticed (noticeOf (addressOf mac1 mac2 mac3 mac4 mac5 mac6) (now (s .entry))) r (now (place .exit)) ⌝ }
 {
     let notice = notification::notice(address_of(mac1, mac2, mac3, mac4, mac5, mac6), s);
-    *place = notification::place_of(notice);
-    notification::number_of(notice)
+    *place = answers::notice_place(notice);
+    answers::notice_number(notice)
 }
 
 // The PES data packet reader: the answer; flags, values and the data's place in the packet go through the numbers lent.

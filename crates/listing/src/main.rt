@@ -70,8 +70,8 @@ fn put_line(output: &mut [u8], at: usize, offset: u64, answer: Answer) -> usize
     requires { ⌜ at + 63 ≤ length (now output) ⌝ }
     ensures { λ r. ⌜ Put (now (output .entry)) at (line offset answer) r (now (output .exit)) ⌝ }
 {
-    let number = receiver::number_of(answer) as u64;
-    let length = receiver::length_of(answer) as u64;
+    let number = answers::number_of(answer) as u64;
+    let length = answers::length_of(answer) as u64;
     let second = put_field(output, at, offset, b' ');
     let third = put_field(output, second, number, b' ');
     put_field(output, third, length, b'\n')
@@ -90,7 +90,7 @@ fn serve(settings: Settings, walk: Walk, input: &[u8], output: &mut [u8], unit: 
     let start = walk.start;
     let end = walk.end;
     let state = walk.state;
-    let n = section::cut::offer_length(&input[start..end]);
+    let n = fields::offer_length(&input[start..end]);
     let stop = start + n;
     let step = receiver::receive(settings, state, &input[start..stop], unit);
     let answer = step.answer;
@@ -255,7 +255,7 @@ fn main() {
     let mut output = io::large_buffer();
     let mut unit = [0; 65535];
     run(
-        section::settings::listing_settings(),
+        settings::listing_settings(),
         &mut input,
         &mut output,
         &mut unit,

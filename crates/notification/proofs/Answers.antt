@@ -17,7 +17,7 @@ use Rattle.notification_rules.specs.declared.Notice.the-variants.{Found, Nobody
 use Rattle.notification_rules.specs.Cut.{Cut, cutOf, stop, more, isNil, odd, Part, part, placed, Is}
 use Rattle.notification_rules.specs.Loop.{loopSize, checked, loopCut, loopsOf, content, descriptorPieces, descriptorsOf, Pair}
 use Rattle.notification_rules.specs.Target.{isCover, coverOf, Location, nowhere, at, located, isLocation, orElse, locationOf, answers, one, firstPair}
-use Rattle.notification_rules.specs.Notice.{refusal, fits, found, chosen, searched, noticeOf, numberOf, partOf, Answered}
+use Rattle.notification_rules.specs.Notice.{refusal, fits, found, chosen, searched, noticeOf, noticeNumber, partOf, Answered}
 use Rattle.notification_rules.proofs.Pieces.{loop-two, loops-stop}
 use Rattle.notification_rules.proofs.Parts.{stands-behind, stands-bytes}
 use Rattle.notification_rules.proofs.Sound.{sound}
@@ -30,7 +30,7 @@ pub below : {a b : ℕ} → a ≤ b → (a ≡ b → ⊥) → a < b
 below h n = omega arith
 
 -- ---- a refusal, and nobody
-empty : (device : Address) (s r : RefT (List ℕ)) (n : ℕ) (x : Notice) → noticeOf device (now s) ≡ x → n ≡ numberOf x → part 0 [] ≡ partOf (now s) x
+empty : (device : Address) (s r : RefT (List ℕ)) (n : ℕ) (x : Notice) → noticeOf device (now s) ≡ x → n ≡ noticeNumber x → part 0 [] ≡ partOf (now s) x
     → now r ≡ [] → r .ptr ≡ s .ptr → Answered device s n r
 empty device s r n x e en ep b p =
     record {
@@ -188,12 +188,12 @@ module _ (device : Address) (s h : List ℕ) (eh : h ≡ checked s) (z : refusal
       nine-of (at x) b ea eb d e = nine (pairAt h r .operational) d operational-is (sym ea ∙ e)
 
       given : (start : ℕ × ℕ) (v : RefT (List ℕ)) (x : Location) → locationOf (platformAt h) (pairAt h r) ≡ x → Picked start x v
-          → (3 ≡ numberOf (found x)) × Is start (partOf s (found x)) v
+          → (3 ≡ noticeNumber (found x)) × Is start (partOf s (found x)) v
       unfolding found locationOf isLocation
       given start v nowhere e i = absurd (never (sym (ap isLocation e) ∙ has-location))
       given start v (at d) e i =
           (refl, record { bytes = i .bytes ∙ nine-of _ _ refl refl d e; block = i .block; place = i .place })
 
       pub found-given : (start : ℕ × ℕ) (v : RefT (List ℕ)) → Picked start (locationOf (platformAt h) (pairAt h r)) v
-          → (3 ≡ numberOf (noticeOf device s)) × Is start (partOf s (noticeOf device s)) v
+          → (3 ≡ noticeNumber (noticeOf device s)) × Is start (partOf s (noticeOf device s)) v
       found-given start v i = rw notice-found (given start v _ refl i)

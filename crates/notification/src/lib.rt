@@ -25,7 +25,7 @@ ghost use lib.ListN.{length, drop};
 ghost use Rattle.wire.specs.Choice.{firstOf};
 ghost use Rattle.notification_rules.specs.Cut.{part, Is};
 ghost use Rattle.notification_rules.specs.Loop.{loopSize, checked};
-ghost use Rattle.notification_rules.specs.Notice.{notificationForm, otherAction, wrongHash, platformLines, refusal, noticeOf, numberOf, placeOf, Answered};
+ghost use Rattle.notification_rules.specs.Notice.{notificationForm, otherAction, wrongHash, platformLines, refusal, noticeOf, Answered};
 ghost use Rattle.notification.specs.Readers.{Holds, Turns, Chosen, Looped, Answering};
 
 fn notification_form() -> Form
@@ -177,26 +177,4 @@ pub fn notice(device: Address, s: &[u8]) -> Notice
     let end = at + 4 + target.len() + operational.len();
     let begin = pick_place(operational, end, platform, 14 + platform.len());
     Notice::Found(begin)
-}
-
-// The paper's number of an answer.
-pub fn number_of(notice: Notice) -> u8
-    ensures { λ r. ⌜ r ≡ numberOf notice ⌝ }
-{
-    match notice {
-        Notice::Found(_) => 3,
-        Notice::Nobody => 4,
-        Notice::Refused(number) => number,
-    }
-}
-
-// The place that an answer carries.
-pub fn place_of(notice: Notice) -> usize
-    ensures { λ r. ⌜ r ≡ placeOf notice ⌝ }
-{
-    match notice {
-        Notice::Found(place) => place,
-        Notice::Nobody => 0,
-        Notice::Refused(_) => 0,
-    }
 }

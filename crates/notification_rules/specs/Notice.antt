@@ -77,16 +77,16 @@ unfoldable pub noticeOf : Address → List ℕ → Notice
 noticeOf device s = pick (eqb (refusal s) 0) (searched device (loopsOf s)) (Refused (refusal s))
 
 -- ---- the paper's number of each answer, and the part that goes with it: empty, at place 0, for all but 3
-abbrev pub numberOf : Notice → ℕ
-numberOf (Found p) = 3
-numberOf Nobody = 4
-numberOf (Refused n) = n
+abbrev pub noticeNumber : Notice → ℕ
+noticeNumber (Found p) = 3
+noticeNumber Nobody = 4
+noticeNumber (Refused n) = n
 
 -- the place of the nine bytes, and 0 for all but 3
-abbrev pub placeOf : Notice → ℕ
-placeOf (Found p) = p
-placeOf Nobody = 0
-placeOf (Refused n) = 0
+abbrev pub noticePlace : Notice → ℕ
+noticePlace (Found p) = p
+noticePlace Nobody = 0
+noticePlace (Refused n) = 0
 
 abbrev pub partOf : List ℕ → Notice → Part
 partOf s (Found p) = part p (take 9 (drop p s))
@@ -95,5 +95,5 @@ partOf s (Refused n) = part 0 []
 
 -- what the reader gives back: the number, and which bytes of the section
 pub record Answered (device : Address) (s : RefT (List ℕ)) (answer : ℕ) (r : RefT (List ℕ)) : Type 0 where
-  pub number : answer ≡ numberOf (noticeOf device (now s))
+  pub number : answer ≡ noticeNumber (noticeOf device (now s))
   pub part : Is (s .ptr) (partOf (now s) (noticeOf device (now s))) r

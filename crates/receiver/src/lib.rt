@@ -1,15 +1,15 @@
 // One step of the receiver, and the gap notice: document 01, 'The receiver'. The letters are the paper's: f is the filled length.
+use fields::address;
+use fields::last_section_number;
+use fields::llc_snap_flag;
+use fields::payload_scrambling_control;
+use fields::same_address;
+use fields::section_number;
 use rules::Answer;
 use rules::Key;
 use rules::Settings;
 use rules::State;
 use rules::Step;
-use section::fields::address;
-use section::fields::last_section_number;
-use section::fields::llc_snap_flag;
-use section::fields::payload_scrambling_control;
-use section::fields::same_address;
-use section::fields::section_number;
 use wire::both;
 use wire::first;
 ghost use mathlib.Core.Path.{_≡_};
@@ -20,32 +20,8 @@ ghost use lib.ListN.{length};
 ghost use lib.Dec.{leb};
 ghost use Rattle.wire.specs.Choice.{first};
 ghost use Rattle.rules.specs.Section.{payload};
-ghost use Rattle.rules.specs.Step.{numberOf, lengthOf, goodSettings, goodRun, goodState, keyOf, sameKey, continues, From, onward, place};
+ghost use Rattle.rules.specs.Step.{goodSettings, goodRun, goodState, keyOf, sameKey, continues, From, onward, place};
 ghost use Rattle.rules.specs.Step.{ours, payloadScrambled, overLimit, bar, room, refuse, laid, finish, keep, lay, stepOf, gapOf, Does};
-
-// The paper's number of an answer.
-pub fn number_of(answer: Answer) -> u8
-    ensures { λ r. ⌜ r ≡ numberOf answer ⌝ }
-{
-    match answer {
-        Answer::Delivered(_) => 0,
-        Answer::Stored => 1,
-        Answer::PassedBy => 2,
-        Answer::Refused(number) => number,
-    }
-}
-
-// The unit length that an answer carries.
-pub fn length_of(answer: Answer) -> usize
-    ensures { λ r. ⌜ r ≡ lengthOf answer ⌝ }
-{
-    match answer {
-        Answer::Delivered(filled) => filled,
-        Answer::Stored => 0,
-        Answer::PassedBy => 0,
-        Answer::Refused(_) => 0,
-    }
-}
 
 // The product is computed only where it is small.
 fn good_run(next: usize, last: usize, filled: usize) -> bool
@@ -224,7 +200,7 @@ fn unfit(settings: Settings, state: State) -> u8
     ensures { λ r. ⌜ r ≡ first (not (goodSettings settings)) 10 (first (not (goodState state)) 11 0) ⌝ }
 {
     first(
-        !section::settings::good_settings(settings),
+        !settings::good_settings(settings),
         10,
         first(!good_state(state), 11, 0),
     )

@@ -1,9 +1,4 @@
 // Whether a section is sound: the numbers 12 to 19 of document 01, in its order, for every slice of every length.
-pub mod cut;
-pub mod fields;
-pub mod header;
-pub mod settings;
-
 use fields::last_section_number;
 use fields::section_length;
 use fields::section_number;

@@ -14,28 +14,8 @@ ghost use lib.ListN.{length};
 ghost use Rattle.wire.specs.Bytes.{Reads};
 ghost use Rattle.wire.specs.Choice.{both, firstOf};
 ghost use Rattle.rules.specs.Section.{sectionOf};
-ghost use Rattle.rules.specs.Send.{sendingNumber, sendingLength, sectionCount, sections, sendLines, sentOf, defaultPiece, Sends};
+ghost use Rattle.rules.specs.Send.{sectionCount, sections, sendLines, sentOf, defaultPiece, Sends};
 ghost use Rattle.sender.specs.Puts.{Puts};
-
-// The paper's number of an answer.
-pub fn number_of(sending: Sending) -> u8
-    ensures { λ r. ⌜ r ≡ sendingNumber sending ⌝ }
-{
-    match sending {
-        Sending::Sent(_) => 0,
-        Sending::Unsent(number) => number,
-    }
-}
-
-// The total length that an answer gives.
-pub fn length_of(sending: Sending) -> usize
-    ensures { λ r. ⌜ r ≡ sendingLength sending ⌝ }
-{
-    match sending {
-        Sending::Sent(length) => length,
-        Sending::Unsent(_) => 0,
-    }
-}
 
 fn size_good(size: usize) -> bool
     ensures { λ r. ⌜ r ≡ both (leb 1 size) (leb size 4080) ⌝ }
@@ -59,7 +39,7 @@ fn section_count(size: usize, unit: &[u8]) -> usize
 fn refusal(settings: Settings, size: usize, unit: &[u8], out: &[u8]) -> u8
     ensures { λ r. ⌜ ((flag : Bool) → r ≡ firstOf (sendLines settings flag size (now (unit .entry)) (now (out .entry)))) ⌝ }
 {
-    if !section::settings::good_settings(settings) {
+    if !settings::good_settings(settings) {
         return 10;
     }
     if !size_good(size) {
@@ -95,7 +75,7 @@ fn put_section(
     requires { ⌜ (length (now piece) ≤ 4080) × (at + (length (now piece) + 16) ≤ length (now out)) ⌝ }
     ensures { λ r. ⌜ Puts (sectionOf a flag number last (now (piece .entry))) at (now (out .entry)) r (now (out .exit)) ⌝ }
 {
-    let header = section::header::header(a, flag, number, last, (piece.len() + 13) as u16);
+    let header = header::header(a, flag, number, last, (piece.len() + 13) as u16);
     let body = put(&header, at, out);
     let end = put(piece, body, out);
     let sum = wire::u32_bytes(crc::crc_32(&out[at..end]));

@@ -54,7 +54,7 @@ fn offer_count(s: &[u8]) -> usize
     let mut rest = s;
     let mut count = 0;
     while rest.len() > 0 {
-        let n = section::cut::offer_length(rest);
+        let n = fields::offer_length(rest);
         rest = &rest[n..];
         count += 1;
     }
@@ -68,13 +68,8 @@ fn print_number(n: usize) {
 
 // A line of the sender: unit length, piece size, number of sections, their length in all.
 fn send_line(size: usize, unit: &[u8], out: &mut [u8]) {
-    let Sending::Sent(total) = sender::send(
-        section::settings::listing_settings(),
-        false,
-        size,
-        unit,
-        out,
-    ) else {
+    let Sending::Sent(total) = sender::send(settings::listing_settings(), false, size, unit, out)
+    else {
         return;
     };
     print(b"send");

@@ -1,7 +1,7 @@
 -- The numbers written are those of what `gap` makes of the state that the numbers meant.
 use mathlib.Core.Path.{ap, _∙_}
 use Rattle.rules.specs.Step.{gapOf}
-use Rattle.exports.specs.Numbers.{numbersOf}
+use Rattle.numbers.specs.Numbers.{numbersOf}
 use borrow.Author.Needs.{needs}
 use Rattle.exports.proofs.fossknut_gap.Statement.{statement}
 use Rattle.exports.proofs.fossknut_gap.Tie as tie

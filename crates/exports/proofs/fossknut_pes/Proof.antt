@@ -6,8 +6,8 @@ use denote.Ref.{now}
 use Rattle.pes_rules.specs.declared.Reading.{Reading}
 use Rattle.pes_rules.specs.Packet.{readOf}
 use Rattle.pes_rules.proofs.Answer.{data-within}
-use Rattle.exports.specs.Numbers.{flagNumber}
-use Rattle.exports.proofs.Meaning.{flag-byte}
+use Rattle.numbers.specs.Numbers.{flagNumber}
+use Rattle.numbers.proofs.Meaning.{flag-byte}
 use borrow.Author.Needs.{needs}
 use Rattle.exports.proofs.fossknut_pes.Statement.{statement}
 use Rattle.exports.proofs.fossknut_pes.Tie as tie

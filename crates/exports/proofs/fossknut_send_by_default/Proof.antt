@@ -10,11 +10,11 @@ settings-of-requires c κs = search needs
 send-by-default-requires : tie.Need-send-by-default-requires
 send-by-default-requires c κs = search needs
 
-length-of-requires : tie.Need-length-of-requires
-length-of-requires c κs = search needs
+sending-length-requires : tie.Need-sending-length-requires
+sending-length-requires c κs = search needs
 
-number-of-requires : tie.Need-number-of-requires
-number-of-requires c κs = search needs
+sending-number-requires : tie.Need-sending-number-requires
+sending-number-requires c κs = search needs
 
 same-length : tie.Need-same-length
 same-length c = search needs
@@ -23,7 +23,7 @@ returns : tie.Need-returns
 returns c =
     let sent = c .before .before .before .before in
     gives (rw (sent .before .before .settings-of .ensures) at (sent .send-by-default .ensures))
-    (c .number-of .ensures) (c .before .length-of .ensures)
+    (c .sending-number .ensures) (c .before .sending-length .ensures)
 
 pub fossknut-send-by-default-spec : {M : Type 1} → statement M
 fossknut-send-by-default-spec =
@@ -31,7 +31,7 @@ fossknut-send-by-default-spec =
     (tie.spec
     settings-of-requires
     send-by-default-requires
-    length-of-requires
-    number-of-requires
+    sending-length-requires
+    sending-number-requires
     same-length
     returns)
