@@ -10,15 +10,15 @@ extern "C" {
     fn fossknut_crc_32(bytes: *const u8, length: usize) -> u32;
     fn fossknut_check(section: *const u8, length: usize) -> u8;
     fn fossknut_receive(
-        mac_1: u8,
-        mac_2: u8,
-        mac_3: u8,
-        mac_4: u8,
-        mac_5: u8,
-        mac_6: u8,
+        mac1: u8,
+        mac2: u8,
+        mac3: u8,
+        mac4: u8,
+        mac5: u8,
+        mac6: u8,
         range: usize,
         limit: usize,
-        open: *mut u8,
+        run: *mut u8,
         next: *mut usize,
         last: *mut usize,
         filled: *mut usize,
@@ -30,52 +30,52 @@ extern "C" {
         length: *mut usize,
     ) -> u8;
     fn fossknut_gap(
-        open: *mut u8,
+        run: *mut u8,
         next: *mut usize,
         last: *mut usize,
         filled: *mut usize,
         flag: *mut u8,
     );
     fn fossknut_send(
-        mac_1: u8,
-        mac_2: u8,
-        mac_3: u8,
-        mac_4: u8,
-        mac_5: u8,
-        mac_6: u8,
+        mac1: u8,
+        mac2: u8,
+        mac3: u8,
+        mac4: u8,
+        mac5: u8,
+        mac6: u8,
         range: usize,
         limit: usize,
         flag: u8,
         size: usize,
         unit: *const u8,
         unit_length: usize,
-        output: *mut u8,
-        output_length: usize,
+        out: *mut u8,
+        out_length: usize,
         length: *mut usize,
     ) -> u8;
     fn fossknut_send_by_default(
-        mac_1: u8,
-        mac_2: u8,
-        mac_3: u8,
-        mac_4: u8,
-        mac_5: u8,
-        mac_6: u8,
+        mac1: u8,
+        mac2: u8,
+        mac3: u8,
+        mac4: u8,
+        mac5: u8,
+        mac6: u8,
         range: usize,
         limit: usize,
         flag: u8,
         unit: *const u8,
         unit_length: usize,
-        output: *mut u8,
-        output_length: usize,
+        out: *mut u8,
+        out_length: usize,
         length: *mut usize,
     ) -> u8;
     fn fossknut_notification(
-        mac_1: u8,
-        mac_2: u8,
-        mac_3: u8,
-        mac_4: u8,
-        mac_5: u8,
-        mac_6: u8,
+        mac1: u8,
+        mac2: u8,
+        mac3: u8,
+        mac4: u8,
+        mac5: u8,
+        mac6: u8,
         section: *const u8,
         section_length: usize,
         place: *mut usize,
@@ -83,8 +83,8 @@ extern "C" {
     fn fossknut_pes(
         packet: *const u8,
         packet_length: usize,
-        extension_flag: *mut u8,
-        rate_flag: *mut u8,
+        extended: *mut u8,
+        rated: *mut u8,
         extension: *mut usize,
         rate: *mut usize,
         start: *mut usize,
@@ -95,10 +95,10 @@ extern "C" {
 /// What a number holds that the library has to write, whatever it answers.
 const UNWRITTEN: usize = usize::MAX;
 
-/// A receiver's state in numbers: idle where `open` is 0, the flag set where `flag` is not.
+/// A receiver's state in numbers: idle where `run` is 0, the flag set where `flag` is not.
 #[derive(Clone, Copy, Debug, Default, PartialEq, Eq)]
 pub(crate) struct State {
-    pub(crate) open: u8,
+    pub(crate) run: u8,
     pub(crate) next: usize,
     pub(crate) last: usize,
     pub(crate) filled: usize,
@@ -123,21 +123,21 @@ pub(crate) fn receive(
     section: &[u8],
     buffer: &mut [u8],
 ) -> (u8, usize) {
-    let [mac_1, mac_2, mac_3, mac_4, mac_5, mac_6] = settings.address;
+    let [mac1, mac2, mac3, mac4, mac5, mac6] = settings.address;
     let mut length = UNWRITTEN;
     // SAFETY: each pointer and length are those of one slice, and the other pointers those of
     // numbers; no two of them overlap, and none is kept. `section` is only read.
     let number = unsafe {
         fossknut_receive(
-            mac_1,
-            mac_2,
-            mac_3,
-            mac_4,
-            mac_5,
-            mac_6,
+            mac1,
+            mac2,
+            mac3,
+            mac4,
+            mac5,
+            mac6,
             settings.range,
             settings.limit,
-            &mut state.open,
+            &mut state.run,
             &mut state.next,
             &mut state.last,
             &mut state.filled,
@@ -156,7 +156,7 @@ pub(crate) fn gap(state: &mut State) {
     // SAFETY: pointers to five numbers, none of which is kept.
     unsafe {
         fossknut_gap(
-            &mut state.open,
+            &mut state.run,
             &mut state.next,
             &mut state.last,
             &mut state.filled,
@@ -173,17 +173,17 @@ pub(crate) fn send(
     unit: &[u8],
     output: &mut [u8],
 ) -> (u8, usize) {
-    let [mac_1, mac_2, mac_3, mac_4, mac_5, mac_6] = settings.address;
+    let [mac1, mac2, mac3, mac4, mac5, mac6] = settings.address;
     let mut length = UNWRITTEN;
     // SAFETY: as for `receive`; `unit` is only read.
     let number = unsafe {
         fossknut_send(
-            mac_1,
-            mac_2,
-            mac_3,
-            mac_4,
-            mac_5,
-            mac_6,
+            mac1,
+            mac2,
+            mac3,
+            mac4,
+            mac5,
+            mac6,
             settings.range,
             settings.limit,
             flag,
@@ -205,17 +205,17 @@ pub(crate) fn send_by_default(
     unit: &[u8],
     output: &mut [u8],
 ) -> (u8, usize) {
-    let [mac_1, mac_2, mac_3, mac_4, mac_5, mac_6] = settings.address;
+    let [mac1, mac2, mac3, mac4, mac5, mac6] = settings.address;
     let mut length = UNWRITTEN;
     // SAFETY: as for `send`.
     let number = unsafe {
         fossknut_send_by_default(
-            mac_1,
-            mac_2,
-            mac_3,
-            mac_4,
-            mac_5,
-            mac_6,
+            mac1,
+            mac2,
+            mac3,
+            mac4,
+            mac5,
+            mac6,
             settings.range,
             settings.limit,
             flag,
@@ -231,18 +231,18 @@ pub(crate) fn send_by_default(
 
 /// The answer's number, and where in the section the nine bytes are.
 pub(crate) fn notification(device: [u8; 6], section: &[u8]) -> (u8, usize) {
-    let [mac_1, mac_2, mac_3, mac_4, mac_5, mac_6] = device;
+    let [mac1, mac2, mac3, mac4, mac5, mac6] = device;
     let mut place = UNWRITTEN;
     // SAFETY: pointer and length are those of one slice, which is only read, and the other pointer
     // is that of a number; neither is kept.
     let number = unsafe {
         fossknut_notification(
-            mac_1,
-            mac_2,
-            mac_3,
-            mac_4,
-            mac_5,
-            mac_6,
+            mac1,
+            mac2,
+            mac3,
+            mac4,
+            mac5,
+            mac6,
             section.as_ptr(),
             section.len(),
             &mut place,
@@ -254,8 +254,8 @@ pub(crate) fn notification(device: [u8; 6], section: &[u8]) -> (u8, usize) {
 /// What the library reads from a PES data packet: the data part is `length` bytes from `start` on.
 #[derive(Clone, Copy, Debug, PartialEq, Eq)]
 pub(crate) struct Pes {
-    pub(crate) extension_flag: u8,
-    pub(crate) rate_flag: u8,
+    pub(crate) extended: u8,
+    pub(crate) rated: u8,
     pub(crate) extension: usize,
     pub(crate) rate: usize,
     pub(crate) start: usize,
@@ -265,8 +265,8 @@ pub(crate) struct Pes {
 /// The answer's number, and what was read.
 pub(crate) fn pes(packet: &[u8]) -> (u8, Pes) {
     let mut pes = Pes {
-        extension_flag: u8::MAX,
-        rate_flag: u8::MAX,
+        extended: u8::MAX,
+        rated: u8::MAX,
         extension: UNWRITTEN,
         rate: UNWRITTEN,
         start: UNWRITTEN,
@@ -277,8 +277,8 @@ pub(crate) fn pes(packet: &[u8]) -> (u8, Pes) {
         fossknut_pes(
             packet.as_ptr(),
             packet.len(),
-            &mut pes.extension_flag,
-            &mut pes.rate_flag,
+            &mut pes.extended,
+            &mut pes.rated,
             &mut pes.extension,
             &mut pes.rate,
             &mut pes.start,

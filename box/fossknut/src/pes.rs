@@ -49,8 +49,8 @@ pub struct Packet<'a> {
 pub fn read(packet: &[u8]) -> Result<Packet<'_>, Refusal> {
     match ffi::pes(packet) {
         (5, pes) => Ok(Packet {
-            extension: (pes.extension_flag != 0).then_some(pes.extension as u16),
-            rate: (pes.rate_flag != 0).then_some(pes.rate as u32),
+            extension: (pes.extended != 0).then_some(pes.extension as u16),
+            rate: (pes.rated != 0).then_some(pes.rate as u32),
             data: &packet[pes.start..pes.start + pes.length],
         }),
         (number, _) => Err(Refusal::answered(number)),

@@ -140,6 +140,38 @@ fn spoil_length(random: &mut Random, section: &mut Vec<u8>) {
     }
 }
 
+/// `section` changed in one to three ways of any kind, half of them in its header; section_length is
+/// often right again, and CRC_32 more often.
+pub fn mutated(random: &mut Random, mut section: Vec<u8>) -> Vec<u8> {
+    for _ in 0..random.between(1, 3) {
+        let end = if random.one_in(2) { HEADER } else { LONGEST };
+        let place = random.below(section.len().clamp(1, end));
+        let more = random.between(1, 20);
+        match random.below(8) {
+            0 => section.truncate(place),
+            1 => section.extend(random.bytes(more)),
+            2 if section.len() >= BEFORE_LENGTH => {
+                set_section_length(&mut section, random.below(4_096))
+            }
+            _ if place >= section.len() => section.push(random.byte()),
+            3 => section.insert(place, random.byte()),
+            4 => drop(section.remove(place)),
+            5 => section[place] = random.byte(),
+            _ => section[place] ^= 1 << random.below(8),
+        }
+    }
+    if section.len() >= SHORTEST {
+        let section_length = section.len() - BEFORE_LENGTH;
+        if random.one_in(2) {
+            set_section_length(&mut section, section_length);
+        }
+        if !random.one_in(4) {
+            seal(&mut section);
+        }
+    }
+    section
+}
+
 #[cfg(test)]
 mod tests {
     use super::*;

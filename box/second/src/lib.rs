@@ -21,6 +21,7 @@ pub mod row;
 pub mod section;
 pub mod sender;
 pub mod tables;
+pub mod tally;
 pub mod telling;
 pub mod vectors;
 

@@ -9,6 +9,11 @@ impl Random {
         Self(seed)
     }
 
+    /// The sequence of one of many cases under one seed, unlike that of any other.
+    pub fn of_case(seed: u64, case: u64) -> Self {
+        Self(Self(Self(seed).number() ^ case).number())
+    }
+
     fn number(&mut self) -> u64 {
         self.0 = self.0.wrapping_add(0x9E37_79B9_7F4A_7C15);
         let mut z = self.0;
@@ -37,6 +42,12 @@ impl Random {
         values[self.below(values.len())]
     }
 
+    /// Each of `values` once in `turns`.
+    pub fn some<T: Copy>(&mut self, values: &[T], turns: usize) -> Vec<T> {
+        let chosen = values.iter().filter(|_| self.one_in(turns));
+        chosen.copied().collect()
+    }
+
     /// Any byte.
     pub fn byte(&mut self) -> u8 {
         self.number() as u8
@@ -45,6 +56,13 @@ impl Random {
     /// That many bytes.
     pub fn bytes(&mut self, length: usize) -> Vec<u8> {
         (0..length).map(|_| self.byte()).collect()
+    }
+
+    /// That many bytes in little time: of a long row the first 251 over and over.
+    pub fn repeated(&mut self, length: usize) -> Vec<u8> {
+        let mut bytes = self.bytes(length.min(251)).repeat(length / 251 + 1);
+        bytes.truncate(length);
+        bytes
     }
 }
 

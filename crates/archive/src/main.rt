@@ -8,7 +8,6 @@ ghost use Rattle.archive.specs.Archive.{Filled};
 ghost use Rattle.rules.specs.Cut.{listingSettings};
 ghost use Rattle.rules.specs.Send.{sentOf, defaultPiece, Sends};
 ghost use mathlib.Core.Bool.{false};
-ghost use mathlib.Core.Path.{_≡_};
 
 // What reading gave: so many bytes at the start of the buffer, or nothing, since it failed.
 enum Input {

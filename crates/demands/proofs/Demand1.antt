@@ -1,8 +1,8 @@
 -- The step decides the table part by part, and each part that does not apply hands on to the next.
-use Prim.Native.Nat.{ℕ, _≤_, _<_, _+_}
+use Prim.Native.Nat.{ℕ, _+_}
 use native.Mathlib.Decide.{ℕ-discrete}
 use native.Mathlib.Omega.{arith}
-use mathlib.Core.Path.{_≡_, refl, sym, ap, _∙_}
+use mathlib.Core.Path.{_≡_, refl, sym, _∙_}
 use mathlib.Core.List.{List, [], _∷_, _++_}
 use mathlib.Core.Bool.{Bool, true, false, not}
 use lib.ListN.{length}
@@ -10,11 +10,11 @@ use lib.Dec.{eqb, leb, ltb}
 use borrow.Author.Tests.{eq-eqb, ne-eqb, leb-true, leb-false, le-ltb, lt-ltb}
 use denote.Ref.{now}
 use Rattle.wire.specs.Choice.{both, first, firstOf, Line, line, numbered, pick}
-use Rattle.wire.proofs.Choice.{firstOf-here, firstOf-past, never, not-first, yes-first}
+use Rattle.wire.proofs.Choice.{firstOf-here, firstOf-past}
 use Rattle.rules.specs.declared.Settings.{Settings}
 use Rattle.rules.specs.declared.State.{State}
-use Rattle.rules.specs.declared.State.the-variants.{Idle, Open}
-use Rattle.rules.specs.declared.Answer.the-variants.{Delivered, PassedBy, Refused, Stored}
+use Rattle.rules.specs.declared.State.the-variants.{Open}
+use Rattle.rules.specs.declared.Answer.the-variants.{PassedBy, Stored}
 use Rattle.rules.specs.Check.{check, checkLines, faultLines, formLines, orderLines}
 use Rattle.rules.specs.declared.Address.{Address}
 use Rattle.notification_rules.specs.declared.Notice.the-variants.{Refused as NoticeRefused}

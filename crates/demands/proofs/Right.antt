@@ -1,10 +1,9 @@
 -- Each contract is an equation with the rules' outcome, of which the rules' theorem speaks.
-use Prim.Native.Nat.{ℕ}
-use mathlib.Core.Path.{_≡_, sym, ap, _∙_}
-use mathlib.Core.Logic.{_↔_}
+use mathlib.Core.Path.{sym, ap, _∙_}
 use denote.Ref.{now}
 use Rattle.rules.specs.Send.{defaultPiece}
 use Rattle.rules.proofs.Demand2.{round-trip}
+use Rattle.rules.proofs.Send.{accepts-exactly}
 use Rattle.notification_rules.proofs.Found.{found-exactly}
 use Rattle.pes_rules.specs.declared.Reading.{Reading}
 use Rattle.pes_rules.proofs.Read.{read-is-written}
@@ -13,6 +12,9 @@ use Rattle.demands.specs.Right.{Right}
 pub right : Right
 right =
     record {
+      accepts = λ κs a z e p n.
+          let t = accepts-exactly (a .0) (a .1 .0) (a .1 .1 .0) (now (a .1 .1 .1 .0)) (now (a .1 .1 .1 .1 .0)) n in
+          (λ q. t .0 (sym (p .sending) ∙ q), λ w. p .sending ∙ t .1 w);
       send = λ κs a z e p n q.
           round-trip (a .0) (a .1 .0) (a .1 .1 .0) (now (a .1 .1 .1 .0)) (now (a .1 .1 .1 .1 .0)) n (sym (p .sending) ∙ q);
       send-by-default = λ κs a z e p n q.

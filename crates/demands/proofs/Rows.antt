@@ -1,9 +1,8 @@
 -- Each contract is an equation with the rules' own step, so the row follows event by event.
-use mathlib.Core.Path.{_≡_, refl, sym, ap, _∙_}
-use mathlib.Core.List.{List, [], _∷_}
-use denote.Ref.{now}
+use mathlib.Core.Path.{_≡_, refl, ap, _∙_}
+use mathlib.Core.List.{List}
 use Rattle.rules.specs.declared.Settings.{Settings}
-use Rattle.rules.specs.Row.{after, Event, Handed, handedBy, handedOver, Held, next}
+use Rattle.rules.specs.Row.{after, Event, Handed, handedOver, Held, next}
 use Rattle.rules.specs.Step.{gapOf}
 use Rattle.demands.specs.Rows.{a-gap, a-section, ended, Given, GivenRow, more, Tied}
 

@@ -1,6 +1,6 @@
 -- Demand 1 of the receiver: a refusal's number is the first of the table that applies, nothing is handed out, the run is dropped and every
 -- lent byte is as before; a section that is passed by leaves the state as given.
-use Prim.Native.Nat.{ℕ, _≤_, _<_, _+_}
+use Prim.Native.Nat.{ℕ, _≤_, _+_}
 use mathlib.Core.Path.{_≡_}
 use mathlib.Core.List.{List, [], _∷_, _++_}
 use mathlib.Core.Bool.{Bool, true, false, not}
@@ -18,7 +18,7 @@ use Rattle.notification_rules.specs.Notice.{refusal}
 use Rattle.pes_rules.specs.Packet.{fault as pesFault, refused as pesRefused}
 use Rattle.rules.specs.Section.{payload}
 use Rattle.rules.specs.Send.{sendingLength, sendingNumber, sendLines, SendOutcome, written}
-use Rattle.rules.specs.Step.{barLines, From, goodSettings, goodState, lengthOf, Nowhere, numberOf, ours, Outcome, Place, place, room, stepOf}
+use Rattle.rules.specs.Step.{barLines, From, goodSettings, goodState, lengthOf, Nowhere, numberOf, ours, Outcome, Place, place, room}
 use Rattle.demands.specs.Allowed.{Allowed}
 use Rattle.section.proofs.check.Reads as check-reads
 use Rattle.section.proofs.check.Kinds as check-kinds

@@ -1,12 +1,13 @@
 -- Demand 2 of the real contracts: what the code writes and reads is right. The theorems are those of the rules; here they speak of what the
 -- functions that are open to callers may give.
-use Prim.Native.Nat.{ℕ}
+use Prim.Native.Nat.{ℕ, _+_, _*_}
 use mathlib.Core.Path.{_≡_}
 use mathlib.Core.Logic.{_↔_}
+use lib.ListN.{length}
 use denote.Ref.{now}
 use Rattle.rules.specs.declared.Sending.the-variants.{Sent}
-use Rattle.rules.specs.Demand2.{Demand2}
-use Rattle.rules.specs.Send.{defaultPiece}
+use Rattle.rules.specs.Demand2.{Accepted, Demand2}
+use Rattle.rules.specs.Send.{defaultPiece, sectionCount}
 use Rattle.notification_rules.specs.declared.Notice.the-variants.{Found}
 use Rattle.notification_rules.specs.Notice.{refusal}
 use Rattle.notification_rules.specs.Right.{FirstAnswer}
@@ -22,6 +23,11 @@ use Rattle.pes.proofs.read.Reads as pes-read-reads
 use Rattle.pes.proofs.read.Kinds as pes-read-kinds
 
 pub record Right : Type 0 where
+  -- `send` accepts exactly where none of 10 and 50 to 53 applies, and gives the unit's bytes and 16 more for each section
+  pub accepts : Allowed 2 send-kinds.ps send-kinds.r send-reads.Learnt
+      (λ κs a z e. (n : ℕ) → (z ≡ Sent n)
+      ↔ (Accepted (a .0) (a .1 .0) (a .1 .1 .0) (now (a .1 .1 .1 .0)) (now (a .1 .1 .1 .1 .0))
+      × (n ≡ length (now (a .1 .1 .1 .0)) + 16 * sectionCount (a .1 .1 .0) (now (a .1 .1 .1 .0)))))
   -- what `send` has written, given in order to a fresh receiver, gives back the unit
   pub send : Allowed 2 send-kinds.ps send-kinds.r send-reads.Learnt
       (λ κs a z e. (n : ℕ) → z ≡ Sent n → Demand2 (a .0) (a .1 .0) (a .1 .1 .0) (now (a .1 .1 .1 .0)) (now (a .1 .1 .1 .1 .0)) n)

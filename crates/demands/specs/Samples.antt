@@ -1,10 +1,9 @@
 -- Document 01, 'Samples on the bench': each line marked (P), of the rules themselves, as a row of one table. Proved in proofs/Samples.antt.
 use Prim.Native.Nat.{ℕ, _+_}
 use mathlib.Core.Path.{_≡_}
-use mathlib.Core.List.{List, [], _∷_, _++_, flatten}
-use mathlib.Core.Bool.{Bool, true, false}
+use mathlib.Core.List.{List, [], _∷_, flatten}
+use mathlib.Core.Bool.{false}
 use lib.ListN.{replicate, take}
-use Rattle.wire.specs.Choice.{pick}
 use Rattle.rules.specs.declared.Settings.{Settings}
 use Rattle.rules.specs.Check.{check}
 use Rattle.rules.specs.Cut.{listingSettings}
@@ -12,7 +11,6 @@ use Rattle.rules.specs.Section.{header, sealed, sectionOf}
 use Rattle.rules.specs.Send.{sections}
 use Rattle.rules.specs.Step.{lengthOf, numberOf, Outcome, stepOf}
 use Rattle.rules.specs.Row.{Event, fresh, gap, Held, next, section}
-use Rattle.pes_rules.specs.declared.Reading.{Reading}
 use Rattle.pes_rules.specs.Packet.{dataOf, readOf}
 use Rattle.notification_rules.specs.Notice.{noticeOf, noticeNumber}
 

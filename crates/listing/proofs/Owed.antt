@@ -5,7 +5,7 @@ use mathlib.Core.Logic.{_⊎_, inl, inr}
 use mathlib.Core.Path.{_≡_, refl, ap, sym, _∙_}
 use mathlib.Core.Bool.{Bool, true, false}
 use mathlib.Core.List.{List, [], _∷_, _++_, append-assoc, append-nil}
-use lib.Dec.{leb, ltb}
+use lib.Dec.{leb}
 use lib.ListN.{length, replicate, take, drop, length-append, length-take, length-drop}
 use lib.Seq.{length-take-le, take-at, drop-at, drop-drop, take-add, take-append-add}
 use borrow.Author.Tests.{leb-true, ltb-false}

@@ -6,7 +6,6 @@ use mathlib.Core.Path.{_≡_, refl, sym, ap, fun-ext, _∙_}
 use mathlib.Core.Bool.{Bool, true, false, not}
 use mathlib.Core.List.{List, [], _∷_, List·Memᴰ, List·Memᴰ·head, List·Memᴰ·tail}
 use lib.ListN.{length, take, drop, length-drop}
-use lib.Dec.{eqb, ltb}
 use borrow.Author.Tests.{lt-ltb, le-ltb, ne-eqb}
 use denote.Ref.{RefT, now}
 use Rattle.wire.specs.Choice.{pick, both, either}
@@ -14,7 +13,8 @@ use Rattle.wire.proofs.Choice.{never}
 use Rattle.rules.specs.declared.Address.{Address}
 use Rattle.notification_rules.specs.declared.Notice.{Notice}
 use Rattle.notification_rules.specs.declared.Notice.the-variants.{Found, Nobody, Refused}
-use Rattle.notification_rules.specs.Cut.{Cut, cutOf, stop, more, isNil, odd, Part, part, placed, Is}
+use Rattle.wire.specs.Part.{Part, part, Is}
+use Rattle.notification_rules.specs.Cut.{cutOf, stop, more, isNil, odd, placed}
 use Rattle.notification_rules.specs.Loop.{loopSize, checked, loopCut, loopsOf, content, descriptorPieces, descriptorsOf, Pair}
 use Rattle.notification_rules.specs.Target.{isCover, coverOf, Location, nowhere, at, located, isLocation, orElse, locationOf, answers, one, firstPair}
 use Rattle.notification_rules.specs.Notice.{refusal, fits, found, chosen, searched, noticeOf, noticeNumber, partOf, Answered}

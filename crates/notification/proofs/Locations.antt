@@ -13,7 +13,8 @@ use Rattle.wire.specs.Choice.{pick}
 use Rattle.wire.specs.Bytes.{byteAt}
 use Rattle.wire.proofs.Choice.{never}
 use Rattle.notification_rules.specs.declared.Notice.the-variants.{Found}
-use Rattle.notification_rules.specs.Cut.{Part, part, placed, Is}
+use Rattle.wire.specs.Part.{Part, part, Is}
+use Rattle.notification_rules.specs.Cut.{placed}
 use Rattle.notification_rules.specs.Loop.{descriptorSize, descriptorPieces}
 use Rattle.notification_rules.specs.Target.{streamLocation, Location, nowhere, at, located, isLocation, orElse}
 use Rattle.notification_rules.specs.Notice.{found}

@@ -7,16 +7,17 @@ use mathlib.Core.Bool.{Bool, true, false, not}
 use mathlib.Core.List.{List, [], _∷_}
 use lib.ListN.{length, take, drop, length-drop}
 use lib.Seq.{drop-drop, length-take-le}
-use lib.Dec.{eqb, ltb}
+use lib.Dec.{eqb}
 use borrow.Author.Tests.{lt-ltb, le-ltb, ne-eqb, not-false}
 use denote.Ref.{RefT, now}
 use Rattle.wire.specs.Bytes.{byteAt}
 use Rattle.wire.specs.Choice.{pick, both, either}
 use Rattle.wire.proofs.Choice.{never}
 use Rattle.rules.specs.declared.Address.{Address}
-use Rattle.notification_rules.specs.Cut.{Cut, cutOf, stop, more, isNil, any, odd, part, placed}
+use Rattle.wire.specs.Part.{part}
+use Rattle.notification_rules.specs.Cut.{Cut, cutOf, stop, more, isNil, any, odd, placed}
 use Rattle.notification_rules.specs.Loop.{loopSize, descriptorSize, content, Pair, pairsOf, descriptorsOf, descriptorPieces}
-use Rattle.notification_rules.specs.Target.{Location, nowhere, at, located, isLocation, Cover, isCover, coverOf, covers, hit, entrySize, entryBytes, none, one, firstPair}
+use Rattle.notification_rules.specs.Target.{Location, nowhere, at, located, isLocation, isCover, coverOf, covers, hit, entrySize, entryBytes, firstPair}
 use Rattle.notification_rules.proofs.Cuts.{from, nil-true, nil-false, nil-length}
 use Rattle.notification_rules.proofs.Pieces.{loop-two, loops-stop, loops-more, stops, goes-on, descriptors-stop, descriptors-more, covered-any}
 use Rattle.notification.proofs.Faults.{drop-take}

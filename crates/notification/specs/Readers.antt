@@ -9,7 +9,8 @@ use denote.Ref.{RefT, now}
 use Rattle.wire.specs.Choice.{pick, both, either, first}
 use Rattle.rules.specs.declared.Address.{Address}
 use Rattle.notification_rules.specs.declared.Notice.the-variants.{Found}
-use Rattle.notification_rules.specs.Cut.{Size, Cut, cutOf, isNil, every, odd, Part, part, placed, Is}
+use Rattle.wire.specs.Part.{Part, part, Is}
+use Rattle.notification_rules.specs.Cut.{Cut, cutOf, isNil, every, odd, placed}
 use Rattle.notification_rules.specs.Loop.{loopSize, descriptorSize, platformPlace, content, filled, Pair, pairsOf, descriptorPieces, descriptorsOf}
 use Rattle.notification_rules.specs.Target.{isCover, coverOf, Location, nowhere, at, located, isLocation, orElse, Choice, none, one, firstPair}
 use Rattle.notification_rules.specs.Notice.{known, found}

@@ -23,7 +23,7 @@ ghost use mathlib.Core.Path.{_≡_};
 ghost use Prim.Native.Nat.{_+_, _≤_};
 ghost use lib.ListN.{length, drop};
 ghost use Rattle.wire.specs.Choice.{firstOf};
-ghost use Rattle.notification_rules.specs.Cut.{part, Is};
+ghost use Rattle.wire.specs.Part.{part, Is};
 ghost use Rattle.notification_rules.specs.Loop.{loopSize, checked};
 ghost use Rattle.notification_rules.specs.Notice.{notificationForm, otherAction, wrongHash, platformLines, refusal, noticeOf, Answered};
 ghost use Rattle.notification.specs.Readers.{Holds, Turns, Chosen, Looped, Answering};

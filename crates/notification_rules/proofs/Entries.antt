@@ -2,16 +2,15 @@
 use Prim.Native.Nat.{ℕ, zero, suc, _+_, _*_, _^_, _≤_, _<_}
 use native.Mathlib.Omega.{arith}
 use mathlib.Core.Path.{_≡_, refl, sym, ap, ap₂, _∙_}
-use mathlib.Core.Bool.{Bool, true, false}
+use mathlib.Core.Bool.{Bool, true}
 use mathlib.Core.List.{List, [], _∷_, _++_, flatten, map, List·Memᴰ}
-use lib.ListN.{length, drop, List·getD-append}
+use lib.ListN.{length, List·getD-append}
 use lib.Seq.{drop-at}
 use lib.Bits.{bitAnd}
-use lib.Dec.{eqb, leb}
+use lib.Dec.{leb}
 use borrow.Author.Tests.{eq-eqb, le-leb}
 use Rattle.wire.specs.Bytes.{numberAt}
 use Rattle.wire.specs.Choice.{pick, both}
-use Rattle.rules.specs.declared.Address.{Address}
 use Rattle.notification_rules.specs.Cut.{Cut, cutOf, any}
 use Rattle.notification_rules.specs.Target.{addressBytes, addressNumber, sameUnder, inRange, entrySize, entryBytes, hit, covers}
 use Rattle.notification_rules.specs.Right.{descriptorWritten, OwnAddressCovers, MasksCover, RangesCover}

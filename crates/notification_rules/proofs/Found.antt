@@ -11,7 +11,8 @@ use Rattle.wire.specs.Choice.{pick, both}
 use Rattle.wire.proofs.Choice.{never}
 use Rattle.rules.specs.declared.Address.{Address}
 use Rattle.notification_rules.specs.declared.Notice.the-variants.{Found}
-use Rattle.notification_rules.specs.Cut.{isNil, Part}
+use Rattle.wire.specs.Part.{Part}
+use Rattle.notification_rules.specs.Cut.{isNil}
 use Rattle.notification_rules.specs.Loop.{loopsOf, content, tag, descriptorsOf, Pair, pairsOf}
 use Rattle.notification_rules.specs.Target.{streamLocation, covers, by, coverFrom, Location, nowhere, at, located, isLocation, orElse, locationOf, isCover, coverOf, answers, Choice, none, one, firstPair}
 use Rattle.notification_rules.specs.Notice.{refusal, found, chosen, searched, noticeOf}

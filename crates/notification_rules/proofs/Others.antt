@@ -1,13 +1,13 @@
 -- A descriptor with another tag has no entries, so none of a loop of such descriptors covers.
 use Prim.Native.Nat.{ℕ}
 use mathlib.Core.Path.{_≡_, refl, ap, _∙_}
-use mathlib.Core.Bool.{Bool, true, false}
+use mathlib.Core.Bool.{false}
 use mathlib.Core.List.{List, [], _∷_, List·Memᴰ, List·Memᴰ·head, List·Memᴰ·tail}
-use lib.Dec.{eqb}
 use borrow.Author.Tests.{ne-eqb}
 use Rattle.wire.specs.Choice.{pick}
 use Rattle.rules.specs.declared.Address.{Address}
-use Rattle.notification_rules.specs.Cut.{Cut, cutOf, any, Part}
+use Rattle.wire.specs.Part.{Part}
+use Rattle.notification_rules.specs.Cut.{Cut, cutOf, any}
 use Rattle.notification_rules.specs.Loop.{tag, descriptorsOf}
 use Rattle.notification_rules.specs.Target.{macAddress, macAddressRange, entrySize, entryBytes, hit, covers, nobody, coverFrom, coverOf}
 use Rattle.notification_rules.specs.Right.{OthersCoverNobody}

@@ -10,7 +10,8 @@ use lib.Seq.{length-take-le, take-at, drop-at}
 use Rattle.wire.specs.Bytes.{byteAt}
 use Rattle.wire.specs.Choice.{both}
 use Rattle.wire.proofs.Choice.{never}
-use Rattle.notification_rules.specs.Cut.{Size, Cut, stop, more, whole, cutOf, every, Part, part, placed}
+use Rattle.wire.specs.Part.{Part, part}
+use Rattle.notification_rules.specs.Cut.{Size, Cut, stop, more, whole, cutOf, every, placed}
 use Rattle.notification_rules.specs.Loop.{descriptorSize, loopSize, descriptorPieces}
 use Rattle.notification_rules.specs.Right.{Stands}
 use Rattle.notification_rules.proofs.Cuts.{whole-true, cut-stop, cut-more}

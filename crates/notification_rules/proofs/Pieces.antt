@@ -1,19 +1,19 @@
 -- One descriptor, one loop, one entry and the rest: each law puts the cut's two cases into a definition, which then computes.
 use Prim.Native.Nat.{ℕ, _+_, _-_, _≤_, _<_}
 use mathlib.Core.Path.{_≡_, refl, ap, _∙_}
-use mathlib.Core.Bool.{Bool, true, false, not}
+use mathlib.Core.Bool.{Bool, true, false}
 use mathlib.Core.List.{List, [], _∷_}
-use lib.ListN.{length, take, drop, getD}
+use lib.ListN.{length, take, drop}
 use lib.Seq.{getD-take, length-take-le}
 use lib.Dec.{eqb}
 use native.Mathlib.Omega.{arith}
 use Rattle.wire.specs.Choice.{pick, both}
-use Rattle.wire.proofs.Choice.{never}
 use Rattle.wire.specs.Bytes.{byteAt}
 use Rattle.rules.specs.declared.Address.{Address}
-use Rattle.notification_rules.specs.Cut.{Size, Cut, stop, more, cutOf, isNil, every, any, part, placed}
+use Rattle.wire.specs.Part.{part}
+use Rattle.notification_rules.specs.Cut.{Size, Cut, stop, more, cutOf, isNil, every, any, placed}
 use Rattle.notification_rules.specs.Loop.{loopSize, descriptorSize, filled, tag, bodyLength, descriptorPieces}
-use Rattle.notification_rules.specs.Target.{rightLength, streamLocation, Location, nowhere, at, located, isLocation, Cover, by, coverFrom, isCover, covers, entrySize}
+use Rattle.notification_rules.specs.Target.{rightLength, streamLocation, nowhere, at, located, isLocation, by, coverFrom, isCover, covers, entrySize}
 use Rattle.notification_rules.specs.Notice.{known}
 use Rattle.notification_rules.proofs.Cuts.{whole-yes, whole-no, cut-stop, cut-more}
 

@@ -14,9 +14,10 @@ use Rattle.wire.specs.Choice.{pick}
 use Rattle.rules.specs.declared.Address.{Address}
 use Rattle.rules.specs.Section.{crcPlace}
 use Rattle.notification_rules.specs.declared.Notice.the-variants.{Found, Refused}
-use Rattle.notification_rules.specs.Cut.{Cut, cutOf, Part, part, placed, every}
+use Rattle.wire.specs.Part.{Part, part}
+use Rattle.notification_rules.specs.Cut.{Cut, cutOf, placed}
 use Rattle.notification_rules.specs.Loop.{loopSize, descriptorSize, checked, loopCut, loopsOf, content, tag, bodyLength, descriptorPieces, descriptorsOf, Pair, pairsOf}
-use Rattle.notification_rules.specs.Target.{streamLocation, rightLength, Location, at, located}
+use Rattle.notification_rules.specs.Target.{streamLocation, rightLength, at, located}
 use Rattle.notification_rules.specs.Notice.{refusal, searched, noticeOf, known}
 use Rattle.notification_rules.specs.Right.{NoLocation, FirstLocation, FirstAnswer, Stands, NineBytes, PlaceIsRight}
 use Rattle.notification_rules.proofs.Pieces.{loops-stop, loop-two}

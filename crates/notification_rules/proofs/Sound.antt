@@ -1,11 +1,11 @@
 -- A section that is not refused has none of the faults: each line of the table has a number, and none applies.
 use Prim.Native.Nat.{ℕ}
 use native.Mathlib.Omega.{arith}
-use mathlib.Core.Path.{_≡_, refl, ap}
-use mathlib.Core.Bool.{Bool, true, false, not}
+use mathlib.Core.Path.{_≡_, refl}
+use mathlib.Core.Bool.{Bool, true, false}
 use mathlib.Core.List.{List, _++_}
 use borrow.Author.Tests.{not-false}
-use Rattle.wire.specs.Choice.{both, Line, first, firstOf, numbered}
+use Rattle.wire.specs.Choice.{both, first, firstOf, numbered}
 use Rattle.rules.specs.Check.{faultLines}
 use Rattle.rules.proofs.Check.{fault-numbered}
 use Rattle.notification_rules.specs.Cut.{every}

@@ -4,12 +4,12 @@ use native.Mathlib.Omega.{arith}
 use mathlib.Core.Path.{_≡_, refl, sym, ap, ap₂, _∙_}
 use mathlib.Core.Bool.{Bool, true, false, not}
 use mathlib.Core.List.{List, [], _∷_, _++_, append-assoc, flatten, map, List·Memᴰ, List·Memᴰ·head, List·Memᴰ·tail}
-use lib.ListN.{length, take, drop, length-append}
+use lib.ListN.{length, take, length-append}
 use lib.Seq.{take-at, drop-at}
 use Rattle.wire.specs.Bytes.{numberAt, bytesOf}
 use Rattle.wire.proofs.Bytes.{length-bytesOf, numberAt-bytesOf}
 use Rattle.wire.specs.Choice.{both}
-use Rattle.notification_rules.specs.Cut.{Size, Cut, stop, cutOf, every, odd}
+use Rattle.notification_rules.specs.Cut.{Size, cutOf, every, odd}
 use Rattle.notification_rules.specs.Loop.{descriptorSize, loopSize, loopCut, content, filled}
 use Rattle.notification_rules.specs.Notice.{fits, misfit}
 use Rattle.notification_rules.specs.Right.{descriptorWritten, loopWritten, contentWritten, DescriptorsCut, LoopsCut, WrittenFits}

@@ -1,12 +1,11 @@
 -- Bytes cut into pieces that stand back to back, each as long as its own first bytes say.
 use Prim.Native.Nat.{ℕ, zero, suc, _+_}
-use mathlib.Core.Path.{_≡_}
 use mathlib.Core.Bool.{Bool, true, false, not}
 use mathlib.Core.List.{List, [], _∷_}
 use lib.ListN.{length, take, drop}
 use lib.Dec.{leb, ltb}
-use denote.Ref.{RefT, now}
 use Rattle.wire.specs.Choice.{pick, both}
+use Rattle.wire.specs.Part.{Part, part}
 
 -- how many bytes the piece at the front takes
 abbrev pub Size : Type 0
@@ -57,21 +56,7 @@ odd [] = false
 odd (x ∷ xs) = not (odd xs)
 
 -- ---- where a piece stands
--- a part of the section: its bytes, and the place of the first of them, counted from the section's first byte
-pub record Part : Type 0 where
-  pub place : ℕ
-  pub bytes : List ℕ
-
-abbrev pub part : ℕ → List ℕ → Part
-part o b = record { place = o; bytes = b }
-
 -- pieces back to back from a place on
 unfoldable pub placed : ℕ → List (List ℕ) → List Part
 placed o [] = []
 placed o (b ∷ bs) = part o b ∷ placed (o + length b) bs
-
--- a slice is a part of the section that begins where `start` points: these bytes, and at this place
-pub record Is (start : ℕ × ℕ) (p : Part) (r : RefT (List ℕ)) : Type 0 where
-  pub bytes : now r ≡ p .bytes
-  pub block : r .ptr .0 ≡ start .0
-  pub place : r .ptr .1 ≡ p .place + start .1

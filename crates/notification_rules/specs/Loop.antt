@@ -5,7 +5,8 @@ use mathlib.Core.List.{List, [], _∷_}
 use lib.ListN.{take, drop}
 use Rattle.wire.specs.Bytes.{byteAt, numberAt}
 use Rattle.rules.specs.Section.{crcPlace}
-use Rattle.notification_rules.specs.Cut.{Size, Cut, cutOf, Part, placed, isNil}
+use Rattle.wire.specs.Part.{Part}
+use Rattle.notification_rules.specs.Cut.{Size, Cut, cutOf, placed, isNil}
 
 -- byte 3
 unfoldable pub actionType : List ℕ → ℕ

@@ -1,7 +1,7 @@
 -- What a device finds in an INT section: document 01, 'The INT section'.
 use Prim.Native.Nat.{ℕ, _+_}
 use mathlib.Core.Path.{_≡_}
-use mathlib.Core.Bool.{Bool, true, false, not}
+use mathlib.Core.Bool.{Bool, false, not}
 use mathlib.Core.List.{List, [], _∷_, _++_}
 use lib.ListN.{take, drop}
 use lib.Bits.{bitXor}
@@ -14,7 +14,8 @@ use Rattle.rules.specs.declared.Form.{Form}
 use Rattle.rules.specs.Check.{faultLines}
 use Rattle.notification_rules.specs.declared.Notice.{Notice}
 use Rattle.notification_rules.specs.declared.Notice.the-variants.{Found, Nobody, Refused}
-use Rattle.notification_rules.specs.Cut.{Cut, Part, part, Is, isNil, every, odd}
+use Rattle.wire.specs.Part.{Part, part, Is}
+use Rattle.notification_rules.specs.Cut.{Cut, isNil, every, odd}
 use Rattle.notification_rules.specs.Loop.{actionType, platformIdHash, loopCut, loopsOf, content, descriptorPieces, filled, tag, bodyLength, pairsOf}
 use Rattle.notification_rules.specs.Target.{rightLength, locationOf, Location, nowhere, at, answers, Choice, none, one, firstPair}
 

@@ -1,7 +1,7 @@
 -- What is right about the rules: theorems, shown in proofs/.
 use Prim.Native.Nat.{ℕ, _+_, _≤_}
 use mathlib.Core.Path.{_≡_}
-use mathlib.Core.Bool.{Bool, true, false, not}
+use mathlib.Core.Bool.{true, false, not}
 use mathlib.Core.List.{List, [], _∷_, _++_, List·Memᴰ, flatten, map}
 use mathlib.Core.Logic.{_⊎_, _↔_}
 use lib.ListN.{length}
@@ -9,7 +9,8 @@ use Rattle.wire.specs.Bytes.{byteAt, bytesOf}
 use Rattle.rules.specs.declared.Address.{Address}
 use Rattle.rules.specs.Section.{crcPlace}
 use Rattle.notification_rules.specs.declared.Notice.the-variants.{Found}
-use Rattle.notification_rules.specs.Cut.{cutOf, isNil, any, odd, Part}
+use Rattle.wire.specs.Part.{Part}
+use Rattle.notification_rules.specs.Cut.{cutOf, isNil, any, odd}
 use Rattle.notification_rules.specs.Loop.{descriptorSize, loopCut, loopsOf, content, tag, descriptorsOf, Pair, pairsOf}
 use Rattle.notification_rules.specs.Target.{addressBytes, sameUnder, inRange, covers, nobody, coverOf}
 use Rattle.notification_rules.specs.Notice.{misfit, refusal, noticeOf}

@@ -8,7 +8,8 @@ use lib.Dec.{leb, eqb}
 use Rattle.wire.specs.Bytes.{numberAt}
 use Rattle.wire.specs.Choice.{pick, both}
 use Rattle.rules.specs.declared.Address.{Address}
-use Rattle.notification_rules.specs.Cut.{cutOf, Part, isNil, any}
+use Rattle.wire.specs.Part.{Part}
+use Rattle.notification_rules.specs.Cut.{cutOf, isNil, any}
 use Rattle.notification_rules.specs.Loop.{tag, body, content, descriptorsOf, Pair}
 
 -- target_MAC_address_descriptor, target_MAC_address_range_descriptor, IP/MAC_stream_location_descriptor

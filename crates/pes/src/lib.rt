@@ -7,8 +7,8 @@ use wire::first;
 ghost use mathlib.Core.Path.{_≡_};
 ghost use Prim.Native.Nat.{_+_};
 ghost use Rattle.wire.specs.Bytes.{Reads};
-ghost use Rattle.pes_rules.specs.Packet.{ptsExtensionFlag, outputDataRateFlag, pesDataPacketHeaderLength, flagged, ptsExtension, ratePlace, outputDataRate, privatePlace, dataPlace, wrongSize, otherIdentifier, wrongFlags, wrongHeaderLength, fault, refused, taken, readOf};
-ghost use Rattle.pes_rules.specs.Part.{Part};
+ghost use Rattle.wire.specs.Part.{Is};
+ghost use Rattle.pes_rules.specs.Packet.{ptsExtensionFlag, outputDataRateFlag, pesDataPacketHeaderLength, flagged, ptsExtension, ratePlace, outputDataRate, privatePlace, dataPlace, wrongSize, otherIdentifier, wrongFlags, wrongHeaderLength, fault, refused, taken, readOf, dataPart};
 
 fn pts_extension_flag(packet: &[u8]) -> bool
     ensures { λ r. ⌜ r ≡ ptsExtensionFlag (now (packet .entry)) ⌝ }
@@ -152,7 +152,7 @@ pub fn read(packet: &[u8]) -> Reading
 
 // The data of the packet as a part of it, empty where it is refused.
 pub fn data<'a>(packet: &'a [u8]) -> &'a [u8]
-    ensures { λ r. ⌜ Part (packet .entry) (readOf (now (packet .entry)) .start) (readOf (now (packet .entry)) .end) r ⌝ }
+    ensures { λ r. ⌜ Is (packet .entry .ptr) (dataPart (now (packet .entry))) r ⌝ }
 {
     let reading = read(packet);
     let start = reading.start;

@@ -1,7 +1,7 @@
 -- No refusal has the number 0 or 5, so a packet is answered 5 exactly where no line applies.
 use Prim.Native.Nat.{ℕ, _≤_}
 use native.Mathlib.Omega.{arith}
-use mathlib.Core.Path.{_≡_, refl, sym}
+use mathlib.Core.Path.{_≡_, refl}
 use mathlib.Core.List.{List}
 use mathlib.Core.Bool.{Bool, true, false}
 use lib.ListN.{length}
@@ -9,8 +9,8 @@ use lib.Seq.{slice}
 use lib.Dec.{eqb}
 use borrow.Author.Tests.{eq-eqb, eqb-true, ltb-false}
 use Rattle.wire.specs.Bytes.{byteAt, bits, numberAt}
-use Rattle.wire.specs.Choice.{pick, either, first, firstOf}
-use Rattle.wire.proofs.Choice.{either-false, never}
+use Rattle.wire.specs.Choice.{pick, first, firstOf}
+use Rattle.wire.proofs.Choice.{either-false}
 use Rattle.pes_rules.specs.declared.Reading.{Reading}
 use Rattle.pes_rules.specs.Packet.{dataIdentifier, subStreamId, ptsExtensionFlag, outputDataRateFlag, flagged, ptsExtension, ratePlace, outputDataRate, privatePlace, dataPlace, wrongSize, otherIdentifier, wrongFlags, wrongHeaderLength, fault, refused, taken, readOf}
 use Rattle.pes_rules.specs.Written.{Values, valuesOf}

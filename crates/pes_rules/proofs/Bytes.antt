@@ -8,7 +8,7 @@ use mathlib.Core.Path.{_≡_, refl, sym, ap, ap₂, _∙_}
 use mathlib.Core.List.{List, [], _∷_, _++_}
 use lib.Arith.{digits-div, digits-lt}
 use lib.Dec.{lit<}
-use lib.ListN.{length, getD, take, drop, length-take, List·getD-eq-default}
+use lib.ListN.{length, take, drop, length-take, List·getD-eq-default}
 use lib.Seq.{drop-cons, getD-drop, getD-take, slice}
 use Rattle.wire.specs.Bytes.{byteAt, numberAt, bytesOf}
 use Rattle.pes_rules.specs.Written.{Bytes}

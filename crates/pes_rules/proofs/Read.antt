@@ -9,13 +9,13 @@ use mathlib.Core.List.{List, [], _∷_, _++_}
 use mathlib.Core.Bool.{Bool, true, false, not}
 use lib.ListN.{length, take, drop, length-drop, length-take, take-append-drop}
 use lib.Seq.{drop-drop, length-take-le, slice, take-add, take-length}
-use lib.Dec.{eqb, ltb, lit<}
+use lib.Dec.{eqb, lit<}
 use borrow.Author.Tests.{eqb-true, ltb-false}
 use Rattle.wire.specs.Bytes.{byteAt, bits, numberAt, bytesOf}
 use Rattle.wire.specs.Choice.{pick, both, either}
 use Rattle.wire.proofs.Choice.{either-false, never}
-use Rattle.pes_rules.specs.Packet.{dataIdentifier, ptsExtensionFlag, outputDataRateFlag, pesDataPacketHeaderLength, flagged, ptsExtension, ratePlace, outputDataRate, privatePlace, dataPlace}
-use Rattle.pes_rules.specs.Written.{Bytes, Conforms, extensionField, flagsByte, IsWritten, optionalFields, packetOf, rateField, ReadIsWritten, Stream, Values}
+use Rattle.pes_rules.specs.Packet.{dataIdentifier, ptsExtensionFlag, outputDataRateFlag, pesDataPacketHeaderLength, flagged, ratePlace, privatePlace, dataPlace}
+use Rattle.pes_rules.specs.Written.{Bytes, Conforms, extensionField, flagsByte, optionalFields, packetOf, rateField, ReadIsWritten, Stream}
 use Rattle.pes_rules.proofs.Answer.{answered, no-fault, None, takenValues, values-taken, within}
 use Rattle.pes_rules.proofs.Bytes.{bytesOf-numberAt, numberAt-lt, slice-bytes, slice-is}
 

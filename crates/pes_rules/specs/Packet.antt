@@ -6,8 +6,9 @@ use mathlib.Core.Bool.{Bool, false, not}
 use lib.ListN.{length}
 use lib.Seq.{slice}
 use lib.Dec.{eqb, ltb}
-use Rattle.wire.specs.Bytes.{byteAt, bit, bits, numberAt}
+use Rattle.wire.specs.Bytes.{byteAt, bit, numberAt}
 use Rattle.wire.specs.Choice.{pick, both, either, Line, line, firstOf}
+use Rattle.wire.specs.Part.{Part, part}
 use Rattle.pes_rules.specs.declared.Reading.{Reading}
 
 -- byte 0
@@ -102,6 +103,10 @@ taken s =
 unfoldable pub readOf : List ℕ → Reading
 readOf s = pick (eqb (fault s) 0) (taken s) (refused (fault s))
 
--- the data part
+-- the data
 abbrev pub dataOf : List ℕ → List ℕ
 dataOf s = slice (readOf s .start) (readOf s .end) s
+
+-- the data part: the data, and where in the packet it stands
+abbrev pub dataPart : List ℕ → Part
+dataPart s = part (readOf s .start) (dataOf s)

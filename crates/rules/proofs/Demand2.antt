@@ -16,16 +16,16 @@ use Rattle.rules.specs.declared.Address.{Address}
 use Rattle.rules.specs.declared.Answer.the-variants.{Delivered, Stored}
 use Rattle.rules.specs.Address.{agree, sameAddress}
 use Rattle.rules.specs.Cut.{offers}
-use Rattle.rules.specs.Demand2.{answerAt, Arrives, RoundTrip}
+use Rattle.rules.specs.Demand2.{Accepted, answerAt, Arrives, RoundTrip}
 use Rattle.rules.specs.Row.{after, elsewhere, Event, fresh, Held, joined, next, Piece, Receivable, section}
 use Rattle.rules.specs.Section.{header, sealed, sectionLength, sectionOf}
 use Rattle.rules.specs.Send.{piece, sectionAt, sectionCount, sections, sectionsTo, sentOf}
 use Rattle.rules.specs.Step.{bar, barLines, finish, keyOf, Outcome, ours, overLimit, payloadScrambled, room, stepOf}
 use Rattle.rules.proofs.Cut.{Framed, offers-sections}
-use Rattle.rules.proofs.Due.{Due, refused, finished, stored, due, due-holds, Holds}
+use Rattle.rules.proofs.Due.{Due, refused, finished, stored, due, due-holds, Holds, started}
 use Rattle.rules.proofs.Lists.{map-more}
-use Rattle.rules.proofs.Runs.{EndsIn, ends-size, only}
-use Rattle.rules.proofs.Send.{Accepted, count-some, Given, given, given-bytes, joined-to, piece-small}
+use Rattle.rules.proofs.Runs.{EndsIn, only}
+use Rattle.rules.proofs.Send.{count-some, Given, given, given-bytes, joined-to, piece-small}
 use Rattle.rules.proofs.Send.{section-size, section-written, sections-at, sections-joined, sections-length, sections-take}
 
 -- ---- each section is receivable
@@ -55,9 +55,6 @@ after-more : (c : Settings) (h : Held) (r : List Event) (e : Event) → after c 
 unfolding after
 after-more c h [] e = refl
 after-more c h (x ∷ r) e = after-more c (next c h x) r e
-
-started : (c : Settings) (b : List ℕ) → Holds c b [] (fresh b)
-started c b = record { size = refl; track = λ κ xs e some partial. omega (arith, ends-size (e .there)) }
 
 module _ (c : Settings) (flag : Bool) (n : ℕ) (u out : List ℕ) (a : Accepted c flag n u out) where
   abbrev count : ℕ

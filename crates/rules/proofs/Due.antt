@@ -18,9 +18,9 @@ use Rattle.rules.specs.Section.{sectionNumber, payload}
 use Rattle.rules.specs.Check.{check}
 use Rattle.rules.specs.Step.{bar, finish, goodSettings, goodState, keep, keyOf, lay, Place, Nowhere, From, place, room}
 use Rattle.rules.specs.Step.{Outcome, ours, outcome, refuse, refuseFirst, stepOf}
-use Rattle.rules.specs.Row.{Event, section, Held, nothing, datagram, handedBy, elsewhere, joined}
+use Rattle.rules.specs.Row.{Event, section, Held, fresh, nothing, datagram, handedBy, elsewhere, joined}
 use Rattle.rules.specs.Row.{Receivable, WholeRun, Ready}
-use Rattle.rules.proofs.Runs.{EndsIn, Next, next, Same, only, whole-ends}
+use Rattle.rules.proofs.Runs.{EndsIn, ends-size, Next, next, Same, only, whole-ends}
 use Rattle.rules.proofs.Track.{key-last, in-order, room-bounds, room-same, laid-length, nowhere}
 use Rattle.rules.proofs.Track.{Gathered, Track, within, good-state, follows, placed, grown}
 use Rattle.rules.proofs.Finish.{handed, held, carried, ready, finish-held, finish-hands}
@@ -57,6 +57,10 @@ module _ (c : Settings) (b : List ℕ) where
   pub record Holds (row : List Event) (h : Held) : Type 0 where
     pub size : length (h .buffer) ≡ length b
     pub track : Track c b row (h .state) (h .buffer)
+
+  -- of a fresh start: an empty row ends in no run
+  pub started : Holds [] (fresh b)
+  started = record { size = refl; track = λ κ xs e some partial. omega (arith, ends-size (e .there)) }
 
   -- ---- the outcome that is due at the section s behind the row past, by what the row then ends in
   pub data Due (past : List Event) (now s : List ℕ) : Outcome → Type 0 where

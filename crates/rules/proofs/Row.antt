@@ -12,9 +12,9 @@ use Rattle.rules.specs.declared.Settings.{Settings}
 use Rattle.rules.specs.Step.{gapOf, goodSettings, goodState}
 use Rattle.rules.specs.Row.{Event, section, gap, Held, fresh, next, after, nothing, datagram, handedBy, handedOver}
 use Rattle.rules.specs.Row.{elsewhere, strike, Ready, AtEvent, Once, RowTheorem}
-use Rattle.rules.proofs.Runs.{ends-size, no-gap, whole-ends, only, apart}
+use Rattle.rules.proofs.Runs.{no-gap, whole-ends, only, apart}
 use Rattle.rules.proofs.Track.{good-state}
-use Rattle.rules.proofs.Due.{no-datagram, passes, Holds, due-holds, due-hands, due}
+use Rattle.rules.proofs.Due.{no-datagram, passes, Holds, started, due-holds, due-hands, due}
 
 -- ---- the struck row
 strike-append : (c : Settings) (r q : List Event) → strike c (r ++ q) ≡ strike c r ++ strike c q
@@ -84,11 +84,8 @@ module _ (c : Settings) (b : List ℕ) (good : goodSettings c ≡ true) where
       rw (strike-append c (e ∷ []) r, ← append-assoc)
       (row-holds r (past ++ strike c (e ∷ [])) (next c h e) (event-holds past h e i))
 
-  started : Holds c b [] (fresh b)
-  started = record { size = refl; track = λ κ xs e some partial. omega (arith, ends-size (e .there)) }
-
   from-fresh : (r : List Event) → Holds c b (strike c r) (after c (fresh b) r)
-  from-fresh r = row-holds r [] (fresh b) started
+  from-fresh r = row-holds r [] (fresh b) (started c b)
 
   -- the state that is handed on is good
   pub good-kept : (r : List Event) → goodState (after c (fresh b) r .state) ≡ true

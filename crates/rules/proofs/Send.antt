@@ -8,13 +8,14 @@ use mathlib.Core.Bool.{Bool, true}
 use mathlib.Core.List.{List, [], _∷_, _++_, flatten, append-assoc, append-nil}
 use lib.ListN.{length, getD, take, drop, length-append, length-take, length-drop, drop-of-length-le}
 use lib.Seq.{drop-drop, getD-at, getD-take, take-add, take-all, take-append-le, take-at}
-use borrow.Author.Tests.{eq-eqb, ne-eqb, leb-true, ltb-false, not-false}
+use borrow.Author.Tests.{eq-eqb, ne-eqb, le-leb, leb-true, le-ltb, ltb-false, not-false}
 use Rattle.wire.specs.Bytes.{over}
-use Rattle.wire.specs.Choice.{pick, firstOf}
+use Rattle.wire.specs.Choice.{pick, both, first, firstOf}
 use Rattle.rules.specs.declared.Address.{Address}
 use Rattle.rules.specs.declared.Settings.{Settings}
 use Rattle.rules.specs.declared.Sending.the-variants.{Sent, Unsent}
 use Rattle.rules.specs.Section.{header, sectionOf}
+use Rattle.rules.specs.Demand2.{Accepted, AcceptsExactly}
 use Rattle.rules.specs.Row.{joined}
 use Rattle.rules.specs.Send.{piece, sectionAt, sectionCount, sections, sectionsTo, sendLines, SendOutcome, sentOf, written}
 use Rattle.rules.specs.Step.{goodSettings}
@@ -24,16 +25,8 @@ use Rattle.rules.proofs.Runs.{joined-more}
 use Rattle.wire.proofs.Choice.{both-true, none-first}
 use Rattle.rules.proofs.Written.{sealed-length, written-is-read}
 
--- ---- what a sender that refuses nothing knows
-pub record Accepted (c : Settings) (flag : Bool) (n : ℕ) (u out : List ℕ) : Type 0 where
-  pub settings : goodSettings c ≡ true
-  pub some : 0 < n
-  pub most : n ≤ 4080
-  pub unit : length u ≤ 65535
-  pub limit : sectionCount n u ≤ c .limit
-  pub room : length (flatten (sections c flag n u)) ≤ length out
-
--- so the numbers of its sections are bytes
+-- ---- what is accepted
+-- the numbers of its sections are bytes
 pub count-byte : {c : Settings} {flag : Bool} {n : ℕ} {u out : List ℕ} → Accepted c flag n u out → sectionCount n u ≤ 255
 unfolding goodSettings
 count-byte {c} a =
@@ -58,6 +51,18 @@ module _ (c : Settings) (flag : Bool) (n : ℕ) (u out : List ℕ) where
         limit = ltb-false _ _ (t52 .0);
         room = ltb-false _ _ (t53 .0);
       }
+
+  refuses-nothing : Accepted c flag n u out → firstOf (sendLines c flag n u out) ≡ 0
+  unfolding sendLines firstOf first both
+  refuses-nothing a =
+      rw (
+        a .settings,
+        le-leb 1 n (a .some),
+        le-leb n 4080 (a .most),
+        le-ltb 65535 (length u) (a .unit),
+        le-ltb (c .limit) (sectionCount n u) (a .limit),
+        le-ltb (length out) (length (flatten (sections c flag n u))) (a .room),
+      )
 
   -- ---- the outcome
   pub unsent-is : (firstOf (sendLines c flag n u out) ≡ 0 → ⊥)
@@ -219,3 +224,12 @@ module _ (c : Settings) (flag : Bool) (n : ℕ) (u : List ℕ) where
     pub sections-joined : joined (sections c flag n u) ≡ u
     unfolding sections
     sections-joined = joined-to (sectionCount n u) (le-refl (sectionCount n u)) ∙ pieces-all n u some
+
+pub accepts-exactly : AcceptsExactly
+unfolding written
+accepts-exactly c flag n u out m = (
+  λ p. let g = given c flag n u out m p in (g .accepted, g .size ∙ sections-bytes c flag n u (g .accepted .some)),
+  λ q.
+      rw (sent-is c flag n u out (refuses-nothing c flag n u out (q .0)))
+      (ap Sent (sections-bytes c flag n u (q .0 .some) ∙ sym (q .1))),
+)

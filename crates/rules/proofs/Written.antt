@@ -1,23 +1,22 @@
 -- The twelve header bytes stand where table 3 puts them, so each field computes; the CRC_32 is written where it is read.
-use Prim.Native.Nat.{ℕ, _+_, _*_, _-_, _/_, _%_, _^_, _≤_, _<_}
+use Prim.Native.Nat.{ℕ, _+_, _-_, _/_, _%_, _≤_}
 use native.Mathlib.Omega.{arith}
 use native.Mathlib.Nat.{mod-eq-of-lt}
 use mathlib.Core.Path.{_≡_, refl, sym, ap, _∙_}
 use mathlib.Core.List.{List, [], _∷_, _++_, append-nil}
 use mathlib.Core.Bool.{Bool, true, false, not}
-use lib.ListN.{length, take, drop, length-append}
+use lib.ListN.{length, take, length-append}
 use lib.Seq.{take-at}
-use lib.Dec.{eqb, ltb}
 use borrow.Author.Tests.{eq-eqb, le-ltb}
 use Rattle.wire.specs.Bytes.{numberAt, bytesOf, bits}
-use Rattle.wire.specs.Choice.{pick, both, either, firstOf}
+use Rattle.wire.specs.Choice.{pick, both, firstOf}
 use Rattle.wire.proofs.Bytes.{length-bytesOf, numberAt-bytesOf}
 use Rattle.wire.proofs.Choice.{not-either, not-first}
 use Rattle.rules.specs.declared.Address.{Address}
 use Rattle.rules.specs.Check.{addressScrambled, check, checkLines, datagramForm, faultLines, formLines, notCurrent, orderLines, otherTable, outOfOrder, tooShort, wrongCrc, wrongLength, wrongSyntax}
 use Rattle.rules.specs.Crc.{crc32}
 use Rattle.rules.specs.Section.{address, addressScramblingControl, crcField, currentNextIndicator, header, lastSectionNumber, llcSnapFlag, payload, payloadScramblingControl, privateIndicator, sealed, sectionLength, sectionNumber, sectionOf, sectionSyntaxIndicator, tableId}
-use Rattle.rules.specs.Written.{Written, WrittenIsRead}
+use Rattle.rules.specs.Written.{WrittenIsRead}
 use Rattle.rules.proofs.Crc.{crc32-lt}
 
 -- ---- bytes with their CRC_32 behind them

@@ -1,8 +1,9 @@
 -- Demand 2 of the sender and the receiver: the sender's sections, given in order to a fresh receiver with the same settings and room
 -- enough, give back exactly the bytes sent. A theorem, shown in proofs/Demand2.antt.
-use Prim.Native.Nat.{ℕ, _+_, _≤_, _<_}
+use Prim.Native.Nat.{ℕ, _+_, _*_, _≤_, _<_}
 use mathlib.Core.Path.{_≡_}
-use mathlib.Core.List.{List, [], map}
+use mathlib.Core.Logic.{_↔_}
+use mathlib.Core.List.{List, [], flatten, map}
 use mathlib.Core.Bool.{Bool, true}
 use lib.ListN.{length, getD, take}
 use Rattle.rules.specs.declared.Settings.{Settings}
@@ -11,8 +12,8 @@ use Rattle.rules.specs.declared.Answer.{Answer}
 use Rattle.rules.specs.declared.Answer.the-variants.{Delivered, Stored}
 use Rattle.rules.specs.Cut.{offers}
 use Rattle.rules.specs.Row.{after, fresh, Held, Receivable, section}
-use Rattle.rules.specs.Send.{sectionCount, sentOf}
-use Rattle.rules.specs.Step.{room, stepOf}
+use Rattle.rules.specs.Send.{sectionCount, sections, sentOf}
+use Rattle.rules.specs.Step.{goodSettings, room, stepOf}
 
 -- what a receiver answers to section i of the row xs, given after those before it to a fresh receiver with the buffer b
 unfoldable pub answerAt : Settings → List ℕ → List (List ℕ) → ℕ → Answer
@@ -31,6 +32,21 @@ pub record Arrives (c : Settings) (b : List ℕ) (xs : List (List ℕ)) (u : Lis
 pub record Demand2 (c : Settings) (flag : Bool) (size : ℕ) (u out : List ℕ) (n : ℕ) : Type 0 where
   pub counted : length (offers (take n (sentOf c flag size u out .output))) ≡ sectionCount size u
   pub arrives : (b : List ℕ) → length u ≤ room b → Arrives c b (offers (take n (sentOf c flag size u out .output))) u
+
+-- none of 10 and 50 to 53 applies
+pub record Accepted (c : Settings) (flag : Bool) (size : ℕ) (u out : List ℕ) : Type 0 where
+  pub settings : goodSettings c ≡ true
+  pub some : 1 ≤ size
+  pub most : size ≤ 4080
+  pub unit : length u ≤ 65535
+  pub limit : sectionCount size u ≤ c .limit
+  pub room : length (flatten (sections c flag size u)) ≤ length out
+
+-- the sender accepts exactly there, and gives the unit's bytes and 16 more for each section
+abbrev pub AcceptsExactly : Type 0
+AcceptsExactly =
+    (c : Settings) (flag : Bool) (size : ℕ) (u out : List ℕ) (n : ℕ)
+    → (sentOf c flag size u out .sending ≡ Sent n) ↔ (Accepted c flag size u out × (n ≡ length u + 16 * sectionCount size u))
 
 -- wherever the sender accepts: good settings, either flag, any unit, any piece size from 1 to 4,080
 abbrev pub RoundTrip : Type 0

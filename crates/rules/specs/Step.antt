@@ -1,8 +1,8 @@
 -- What one section does to the receiver: document 01, 'The receiver'. The answer, the state after and the buffer after.
-use Prim.Native.Nat.{ℕ, _+_, _*_, _≤_, min}
+use Prim.Native.Nat.{ℕ, _+_, _*_, min}
 use mathlib.Core.Path.{_≡_}
 use mathlib.Core.List.{List, [], _∷_}
-use mathlib.Core.Bool.{Bool, true, false, not, Bool·beq}
+use mathlib.Core.Bool.{Bool, true, not, Bool·beq}
 use lib.ListN.{length}
 use lib.Seq.{paste}
 use lib.Dec.{ltb, leb, eqb}

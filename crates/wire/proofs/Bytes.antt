@@ -1,7 +1,7 @@
 -- Bytes past the end are 0, and a number's bytes, written and read, are the number.
 use Prim.Native.Nat.{ℕ, zero, suc, _+_, _*_, _/_, _%_, _^_, _≤_, _<_}
 use native.Mathlib.Omega.{arith}
-use mathlib.Core.Path.{_≡_, refl, sym, ap, _∙_}
+use mathlib.Core.Path.{_≡_, refl, sym, ap}
 use native.Mathlib.Nat.{mod-one, one-le-pow, pow-succ'}
 use mathlib.Core.List.{List, [], _∷_, _++_}
 use lib.Arith.{mod-mul}

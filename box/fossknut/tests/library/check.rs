@@ -191,10 +191,7 @@ fn random_sections() {
         let section = if random.one_in(4) {
             bits_flipped(&mut random)
         } else {
-            let faults = CHECKS
-                .into_iter()
-                .filter(|_| random.one_in(12))
-                .collect::<Vec<_>>();
+            let faults = random.some(&CHECKS, 12);
             faulty(&mut random, &faults)
         };
         times[usize::from(library.agreed(&section))] += 1;

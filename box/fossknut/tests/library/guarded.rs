@@ -58,15 +58,16 @@ impl Guarded {
 
     /// A copy of `bytes` that ends where the memory does.
     pub fn at_end(&mut self, bytes: &[u8]) -> &mut [u8] {
-        self.copy(LENGTH - bytes.len(), bytes)
+        self.at(LENGTH - bytes.len(), bytes)
     }
 
     /// A copy of `bytes` that starts where the memory does.
     pub fn at_start(&mut self, bytes: &[u8]) -> &mut [u8] {
-        self.copy(0, bytes)
+        self.at(0, bytes)
     }
 
-    fn copy(&mut self, offset: usize, bytes: &[u8]) -> &mut [u8] {
+    /// A copy of `bytes` that starts at `offset`.
+    pub fn at(&mut self, offset: usize, bytes: &[u8]) -> &mut [u8] {
         // SAFETY: the middle third is ours alone as long as `self` is.
         let memory = unsafe { slice::from_raw_parts_mut(self.start, LENGTH) };
         let place = &mut memory[offset..][..bytes.len()];

@@ -8,23 +8,14 @@ mod crc_32;
 mod ffi;
 mod guarded;
 mod notification;
+mod numbers;
 mod pes;
 mod receiver;
 mod refusal;
 mod sender;
-mod tally;
 
 use fossknut::{Refusal, Settings};
 use guarded::Guarded;
-
-/// The wrapper's settings for the second program's.
-fn settings(second: &second::receiver::Settings) -> Settings {
-    Settings {
-        address: second.address,
-        range: second.range,
-        limit: second.limit,
-    }
-}
 
 /// The library, called only on slices whose ends are guarded, and held to leave them as they were.
 struct Library {

@@ -1,6 +1,5 @@
 //! The INT reader.
 
-use crate::tally::Tally;
 use crate::{ffi, Library};
 use fossknut::notification;
 use second::generator::notifications::{
@@ -8,6 +7,7 @@ use second::generator::notifications::{
 };
 use second::generator::{seal, subsets, OURS};
 use second::random::Random;
+use second::tally::Tally;
 use second::telling;
 
 /// A whole descriptor.
@@ -157,7 +157,7 @@ fn every_set_of_faults() {
 fn random_sections() {
     let mut library = Library::new();
     let mut random = Random::new(4);
-    let mut tally = Tally::new();
+    let mut tally = Tally::default();
     for _ in 0..30_000 {
         let (device, section) = match random.below(3) {
             0 => bytes_changed(&mut random),

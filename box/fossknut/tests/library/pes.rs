@@ -1,9 +1,9 @@
 //! The PES data packet reader.
 
-use crate::tally::Tally;
-use crate::{ffi, Library};
+use crate::{ffi, numbers, Library};
 use fossknut::pes;
 use second::random::Random;
+use second::tally::Tally;
 use second::telling;
 
 impl Library {
@@ -12,7 +12,7 @@ impl Library {
     fn pes(&mut self, packet: &[u8]) -> u8 {
         let (number, read) = self.call(packet, ffi::pes);
         let second = second::pes::read(packet);
-        assert_eq!((number, read), numbers(&second), "{packet:02X?}");
+        assert_eq!((number, read), numbers::pes(&second), "{packet:02X?}");
         let wrapped = pes::read(packet).map_err(pes::Refusal::number);
         let second = second.map(|second| pes::Packet {
             extension: second.extension,
@@ -24,38 +24,17 @@ impl Library {
     }
 }
 
-/// What the second program reads in the library's numbers.
-fn numbers(read: &Result<second::pes::Packet, u8>) -> (u8, ffi::Pes) {
-    let nothing = ffi::Pes {
-        extension_flag: 0,
-        rate_flag: 0,
-        extension: 0,
-        rate: 0,
-        start: 0,
-        length: 0,
-    };
-    match read {
-        Err(number) => (*number, nothing),
-        Ok(packet) => {
-            let pes = ffi::Pes {
-                extension_flag: packet.extension.is_some().into(),
-                rate_flag: packet.rate.is_some().into(),
-                extension: packet.extension.unwrap_or(0).into(),
-                rate: packet.rate.unwrap_or(0) as usize,
-                start: packet.data.start,
-                length: packet.data.len(),
-            };
-            (5, pes)
-        }
-    }
-}
-
 #[test]
 fn telling_inputs() {
     let mut library = Library::new();
     for telling in telling::packets() {
         let number = library.pes(&telling.bytes);
-        assert_eq!(number, numbers(&telling.answer).0, "{}", telling.source);
+        assert_eq!(
+            number,
+            numbers::pes(&telling.answer).0,
+            "{}",
+            telling.source
+        );
     }
 }
 
@@ -64,7 +43,7 @@ fn telling_inputs() {
 fn every_header_at_every_length() {
     let mut library = Library::new();
     let mut random = Random::new(1);
-    let mut tally = Tally::new();
+    let mut tally = Tally::default();
     for identifier in [0x20, 0x21, 0x22, 0x23, 0xA1, 0x00] {
         for flags_and_length in 0..=0xFF {
             for length in 0..=20 {

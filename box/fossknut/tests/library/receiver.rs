@@ -1,26 +1,15 @@
 //! The receiver, and the rows of demand 3.
 
 use crate::guarded::Guarded;
-use crate::tally::Tally;
-use crate::{ffi, settings};
+use crate::{ffi, numbers};
 use fossknut::Answer;
-use second::generator::rows::{any_row, any_state, bad_settings, good_settings};
-use second::generator::{faulty, seal, sound, CHECKS};
+use second::generator::rows::{any_row, any_state, bad_settings, good_settings, nearly_continuing};
+use second::generator::sound;
 use second::random::Random;
 use second::receiver::{Receiver, Run, Settings};
 use second::row::{whole_runs, Event};
+use second::tally::Tally;
 use second::telling;
-
-/// The second program's state in the library's numbers.
-fn numbers(state: Option<Run>) -> ffi::State {
-    state.map_or_else(ffi::State::default, |run| ffi::State {
-        open: 1,
-        next: run.next,
-        last: run.last,
-        filled: run.filled,
-        flag: run.flag.into(),
-    })
-}
 
 /// Guarded memory for a receiver: one for its buffer, one for the sections.
 struct Memory {
@@ -39,8 +28,8 @@ impl Memory {
     /// The library's receiver and the second program's, with equal buffers.
     fn pair(&mut self, second: Receiver) -> Pair<'_> {
         Pair {
-            settings: settings(&second.settings),
-            state: numbers(second.state),
+            settings: numbers::settings(&second.settings),
+            state: numbers::state(second.state),
             buffer: self.buffer.at_end(&second.buffer),
             section: &mut self.section,
             second,
@@ -80,7 +69,7 @@ impl Pair<'_> {
     }
 
     fn assert_equal(&self) {
-        assert_eq!(self.state, numbers(self.second.state));
+        assert_eq!(self.state, numbers::state(self.second.state));
         assert!(self.buffer == self.second.buffer, "the buffers differ");
     }
 
@@ -114,7 +103,7 @@ fn telling_inputs() {
 fn random_rows() {
     let mut memory = Memory::new();
     let mut random = Random::new(1);
-    let mut tally = Tally::new();
+    let mut tally = Tally::default();
     for _ in 0..20_000 {
         let row = any_row(&mut random);
         let buffer = random.bytes(row.buffer_length.min(300));
@@ -136,7 +125,7 @@ fn random_rows_by_the_wrapper() {
         let row = any_row(&mut random);
         let whole = whole_runs(&row.settings, row.buffer_length, &row.events);
         let buffer = vec![0; row.buffer_length];
-        let mut receiver = fossknut::Receiver::new(settings(&row.settings), buffer);
+        let mut receiver = fossknut::Receiver::new(numbers::settings(&row.settings), buffer);
         for (event, whole) in row.events.iter().zip(whole) {
             let unit = match event {
                 Event::Section(bytes) => match receiver.receive(bytes) {
@@ -155,41 +144,16 @@ fn random_rows_by_the_wrapper() {
     assert!(delivered > 20_000, "{delivered}");
 }
 
-/// A section that goes on with the run, or nearly.
-fn nearly_continuing(random: &mut Random, settings: &Settings, run: &Run) -> Vec<u8> {
-    let mut address = settings.address;
-    if random.one_in(8) {
-        address[random.below(6)] ^= 1;
-    }
-    let length = random.pick(&[0, 1, 1, 2, 3, 50]);
-    let mut section = sound(
-        address,
-        run.next as u8,
-        run.last as u8,
-        &random.bytes(length),
-    );
-    section[5] |= u8::from(run.flag) << 1;
-    match random.below(16) {
-        0 => section[5] ^= 2,
-        1 => section[5] ^= 0x10,
-        2 => section[6] = 0,
-        3 => section[7] = section[6],
-        4 => section[6] = section[6].wrapping_add(1),
-        5 => {
-            let fault = random.pick(&CHECKS);
-            return faulty(random, &[fault]);
-        }
-        _ => {}
-    }
-    seal(&mut section);
-    section
+fn short_nearly_continuing(random: &mut Random, settings: &Settings, run: &Run) -> Vec<u8> {
+    let payload_length = random.pick(&[0, 1, 1, 2, 3, 50]);
+    nearly_continuing(random, settings, run, payload_length)
 }
 
 #[test]
 fn settings_and_states_of_any_value() {
     let mut memory = Memory::new();
     let mut random = Random::new(3);
-    let mut tally = Tally::new();
+    let mut tally = Tally::default();
     for _ in 0..40_000 {
         let settings = if random.one_in(6) {
             bad_settings(&mut random)
@@ -197,7 +161,7 @@ fn settings_and_states_of_any_value() {
             good_settings(&mut random)
         };
         let run = any_state(&mut random);
-        let section = nearly_continuing(&mut random, &settings, &run);
+        let section = short_nearly_continuing(&mut random, &settings, &run);
         let near = run.filled.min(66_000) + section.len().saturating_sub(16);
         let length = match random.below(32) {
             0 => near + random.below(3),
@@ -212,7 +176,7 @@ fn settings_and_states_of_any_value() {
         // READINGS A12: any number but 0 is a 1.
         let any_1 = random.pick(&[1, 2, 128, 255]);
         pair.state.flag *= any_1;
-        pair.state.open *= any_1;
+        pair.state.run *= any_1;
         tally.count(pair.receive(&section).0);
     }
     tally.assert_all((0..=2).chain(10..=23), 20);
@@ -225,11 +189,11 @@ fn idle_with_any_numbers() {
     for _ in 0..2_000 {
         let settings = good_settings(&mut random);
         let run = any_state(&mut random);
-        let section = nearly_continuing(&mut random, &settings, &run);
+        let section = short_nearly_continuing(&mut random, &settings, &run);
         let mut pair = memory.pair(Receiver::new(settings, vec![0; 100]));
         pair.state = ffi::State {
-            open: 0,
-            ..numbers(Some(run))
+            run: 0,
+            ..numbers::state(Some(run))
         };
         pair.receive(&section);
     }
@@ -240,9 +204,9 @@ fn gap_notices_in_any_state() {
     let mut random = Random::new(5);
     for _ in 0..10_000 {
         let mut state = ffi::State {
-            open: random.byte(),
+            run: random.byte(),
             flag: random.byte(),
-            ..numbers(Some(any_state(&mut random)))
+            ..numbers::state(Some(any_state(&mut random)))
         };
         ffi::gap(&mut state);
         assert_eq!(state, ffi::State::default());

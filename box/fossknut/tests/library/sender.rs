@@ -1,7 +1,7 @@
 //! The sender, and the way back through the receiver.
 
 use crate::guarded::Guarded;
-use crate::{ffi, settings};
+use crate::{ffi, numbers};
 use fossknut::{Answer, Refusal};
 use second::generator::rows::{bad_settings, good_settings};
 use second::generator::{subsets, OURS};
@@ -55,7 +55,7 @@ impl Memory {
     fn expect(&mut self, call: &Call, answer: (u8, usize), expected: &[u8]) {
         let output = self.output.at_end(&vec![PATTERN; expected.len()]);
         let unit = self.unit.at_end(call.unit);
-        let settings = settings(&call.settings);
+        let settings = numbers::settings(&call.settings);
         let given = match call.piece_size {
             Some(size) => ffi::send(&settings, call.flag, size, unit, output),
             None => ffi::send_by_default(&settings, call.flag, unit, output),
@@ -226,7 +226,7 @@ fn what_the_wrapper_sends_the_wrapper_receives() {
     let mut random = Random::new(4);
     let bytes = random.bytes(65_535);
     for turn in 0..600 {
-        let settings = settings(&good_settings(&mut random));
+        let settings = numbers::settings(&good_settings(&mut random));
         let piece_size = match random.below(4) {
             0 => None,
             1 => Some(random.between(1, 4_080)),

@@ -153,6 +153,14 @@ fn events(random: &mut Random, sections: Vec<Vec<u8>>) -> Vec<Event> {
     events
 }
 
+/// Seldom such as 10 refuses.
+pub fn any_settings(random: &mut Random) -> Settings {
+    match random.below(16) {
+        0 => bad_settings(random),
+        _ => good_settings(random),
+    }
+}
+
 /// Settings that 10 refuses: out of range, and such that only their low bits are good.
 pub fn bad_settings(random: &mut Random) -> Settings {
     let good = good_settings(random);
@@ -187,4 +195,49 @@ pub fn any_state(random: &mut Random) -> Run {
         filled,
         flag: random.one_in(2),
     }
+}
+
+/// An open state that is good: often with few sections to come, or with as much filled as can be.
+pub fn good_state(random: &mut Random) -> Run {
+    let few = random.between(1, 4);
+    let many = random.between(1, 254);
+    let next = random.pick(&[few, few, many]);
+    let most = 65_535.min(4_080 * next);
+    let less = random.below(most.min(300));
+    Run {
+        next,
+        last: 254.min(next + random.below(3)),
+        filled: random.pick(&[less, less, most, most - less]),
+        flag: random.one_in(2),
+    }
+}
+
+/// A section that goes on with the run, or nearly, with a payload of that length.
+pub fn nearly_continuing(
+    random: &mut Random,
+    settings: &Settings,
+    run: &Run,
+    payload_length: usize,
+) -> Vec<u8> {
+    let mut address = settings.address;
+    if random.one_in(8) {
+        address[random.below(6)] ^= 1;
+    }
+    let payload = random.repeated(payload_length);
+    let mut section = sound(address, run.next as u8, run.last as u8, &payload);
+    section[5] |= u8::from(run.flag) << 1;
+    match random.below(16) {
+        0 => section[5] ^= 2,
+        1 => section[5] ^= 0x10,
+        2 => section[6] = 0,
+        3 => section[7] = section[6],
+        4 => section[6] = section[6].wrapping_add(1),
+        5 => {
+            let fault = random.pick(&CHECKS);
+            return faulty(random, &[fault]);
+        }
+        _ => {}
+    }
+    seal(&mut section);
+    section
 }

@@ -4,7 +4,7 @@ use Rattle.notification_rules.proofs.Pieces.{loop-two}
 use Rattle.notification_rules.proofs.Cuts.{from}
 use Rattle.notification_rules.specs.Loop.{loopSize}
 use denote.Ref.{now}
-use lib.ListN.{length, drop}
+use lib.ListN.{drop}
 use mathlib.Core.Path.{_≡_, refl, _∙_}
 use native.Mathlib.Omega.{arith}
 use Prim.Native.Nat.{_-_}

@@ -7,11 +7,10 @@ use Rattle.rules.proofs.Check.{fault-numbered}
 use Rattle.rules.specs.Check.{faultLines, fault}
 use Rattle.rules.specs.declared.Form.{Form}
 use Rattle.wire.proofs.Choice.{firstOf-here, firstOf-past, was}
-use Rattle.wire.specs.Choice.{firstOf}
 use denote.Ref.{now}
 use lib.ListN.{drop}
 use mathlib.Core.List.{List}
-use mathlib.Core.Bool.{Bool, true, false}
+use mathlib.Core.Bool.{true, false}
 use mathlib.Core.Path.{sym, ap, _∙_}
 use Prim.Native.Nat.{ℕ}
 use borrow.Author.Needs.{needs}

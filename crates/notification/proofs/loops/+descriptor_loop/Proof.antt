@@ -4,7 +4,7 @@ use Rattle.notification_rules.proofs.Cuts.{from}
 use Rattle.notification.proofs.Faults.{fault-end, fault-stop, fault-more}
 use denote.Ref.{now}
 use mathlib.Core.Path.{_∙_}
-use lib.ListN.{length, take, drop, length-drop}
+use lib.ListN.{length, length-drop}
 use native.Mathlib.Omega.{arith}
 use borrow.Author.Needs.{needs}
 use Prim.Native.Nat.{ℕ, _<_}

@@ -5,7 +5,7 @@ use Rattle.notification.proofs.Faults.{loops-end, loops-short, loops-mi
 use mathlib.Core.Bool.{true, false}
 use denote.Ref.{now}
 use mathlib.Core.Path.{_∙_}
-use lib.ListN.{length, take, drop, length-drop}
+use lib.ListN.{length, length-drop}
 use native.Mathlib.Omega.{arith}
 use borrow.Author.Needs.{needs}
 use Prim.Native.Nat.{ℕ, _<_}

@@ -1,0 +1,49 @@
+//! The second program's values in the library's numbers.
+
+use crate::ffi;
+use second::pes::Packet;
+use second::receiver::{Run, Settings};
+
+pub(crate) fn settings(second: &Settings) -> fossknut::Settings {
+    fossknut::Settings {
+        address: second.address,
+        range: second.range,
+        limit: second.limit,
+    }
+}
+
+pub(crate) fn state(second: Option<Run>) -> ffi::State {
+    second.map_or_else(ffi::State::default, |run| ffi::State {
+        run: 1,
+        next: run.next,
+        last: run.last,
+        filled: run.filled,
+        flag: run.flag.into(),
+    })
+}
+
+/// The answer's number, and what was read.
+pub(crate) fn pes(read: &Result<Packet, u8>) -> (u8, ffi::Pes) {
+    let nothing = ffi::Pes {
+        extended: 0,
+        rated: 0,
+        extension: 0,
+        rate: 0,
+        start: 0,
+        length: 0,
+    };
+    match read {
+        Err(number) => (*number, nothing),
+        Ok(packet) => {
+            let pes = ffi::Pes {
+                extended: packet.extension.is_some().into(),
+                rated: packet.rate.is_some().into(),
+                extension: packet.extension.unwrap_or(0).into(),
+                rate: packet.rate.unwrap_or(0) as usize,
+                start: packet.data.start,
+                length: packet.data.len(),
+            };
+            (5, pes)
+        }
+    }
+}
