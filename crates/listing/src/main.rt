@@ -169,7 +169,7 @@ fn finish(walk: Walk) -> Walk
     requires { ⌜ walk .over ≡ true ⌝ }
     requires { ⌜ walk .start ≡ walk .end ⌝ }
     ensures { λ r. ⌜ Stays walk r ⌝ }
-    ensures { λ r. ⌜ r .out ≡ walk .out ⌝ }
+    ensures { λ r. ⌜ (r .out ≡ walk .out) × (r .done ≡ true) ⌝ }
     ensures { λ r. ⌜ ((c : Given) (b o u rest : List ℕ) → Left r b rest → owed c r o u rest ≡ take (r .out) o) ⌝ }
 {
     let mut after = walk;
@@ -219,10 +219,11 @@ fn turn(
     serve(settings, walk, input, output, unit)
 }
 
-// At the start of a recording, with a fresh receiver: its listing is owed.
+// At the start of a recording, with a fresh receiver: its listing is owed, and any recording may be left.
 fn fresh() -> Walk
     ensures { λ r. ⌜ ((o recording : List ℕ) → owed listingSettings r o (replicate 65535 0) recording ≡ listing recording) ⌝ }
     ensures { λ r. ⌜ (Fine r 0) × (Room r 0) ⌝ }
+    ensures { λ r. ⌜ (r .over ≡ false) × (r .done ≡ false) ⌝ }
 {
     Walk {
         start: 0,

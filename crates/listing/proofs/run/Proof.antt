@@ -23,7 +23,7 @@ fresh-requires c κs = tt
 
 loop-holds : tie.Need-loop-holds Inv-loop μ-loop
 loop-holds c =
-    let at = c .fresh .ensures .1 in (
+    let at = c .fresh .ensures .1 .0 in (
       record { order = at .0 .order; within = omega (arith, at .0 .within) },
       omega (arith, at .1),
       refl,

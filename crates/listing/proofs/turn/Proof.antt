@@ -61,7 +61,7 @@ returns-3 c =
     let start = roomy .before .before .before .before .before in
     let not-full = was (roomy .before .full .ensures) (roomy .if1 .left) in
     let same = c .finish .ensures .0 in
-    let out = c .finish .ensures .1 .0 in
+    let out = c .finish .ensures .1 .0 .0 in
     let kept = kept-stays (start .args .walk) (now (start .args .input)) same out in (
       fine-stays (start .args .walk) same (start .pre .0),
       (omega (arith, out, start .pre .1), λ rest l. turned-kept (start .args .settings) (start .args .walk) not-full kept l),
