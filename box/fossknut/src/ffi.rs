@@ -1,8 +1,8 @@
 //! The boundary to the static library, and the only unsafe code of this crate.
 //!
-//! Nothing checks these declarations against the library: a `&[u8]` there is two arguments here,
-//! pointer and length. The functions behind them are for any numbers, good or not; the tests call
-//! them with such as the wrapper never makes.
+//! No compiler checks these declarations against the library, so `scripts/boundary` does: a `&[u8]`
+//! there is two arguments here, pointer and length. The functions behind them are for any numbers,
+//! good or not; the tests call them with such as the wrapper never makes.
 
 use crate::Settings;
 

@@ -1,3 +1,4 @@
+pub mod Abroad
 pub mod Allowed
 pub mod Demand1
 pub mod Right

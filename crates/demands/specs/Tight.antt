@@ -5,6 +5,7 @@ use mathlib.Core.Path.{_≡_}
 use mathlib.Core.List.{List}
 use denote.Ref.{now, ptr}
 use borrow.Fn.Kinds.{PK, RK}
+use Rattle.demands.specs.Abroad.{gappedState, lengthByDefault, placeTold, receivedBuffer, receivedLength, receivedState, sentByDefault, sentLength, sentOutput}
 use Rattle.demands.specs.Allowed.{AnyTwo, Contract}
 use Rattle.numbers.specs.Numbers.{numbers}
 use Rattle.wire.proofs.byte_at.Reads as byte-at-reads
@@ -132,9 +133,9 @@ abbrev pub ForeignReceiveTight : Type 0
 ForeignReceiveTight =
     AnyTwo 8 fossknut-receive-kinds.ps fossknut-receive-kinds.r fossknut-receive-reads.Learnt
     (λ κs z y e d. (z ≡ y)
-    × (numbers (now (e .1 .1 .1 .1 .1 .1 .1 .1 .0)) (now (e .1 .1 .1 .1 .1 .1 .1 .1 .1 .0)) (now (e .1 .1 .1 .1 .1 .1 .1 .1 .1 .1 .0)) (now (e .1 .1 .1 .1 .1 .1 .1 .1 .1 .1 .1 .0)) (now (e .1 .1 .1 .1 .1 .1 .1 .1 .1 .1 .1 .1 .0)) ≡ numbers (now (d .1 .1 .1 .1 .1 .1 .1 .1 .0)) (now (d .1 .1 .1 .1 .1 .1 .1 .1 .1 .0)) (now (d .1 .1 .1 .1 .1 .1 .1 .1 .1 .1 .0)) (now (d .1 .1 .1 .1 .1 .1 .1 .1 .1 .1 .1 .0)) (now (d .1 .1 .1 .1 .1 .1 .1 .1 .1 .1 .1 .1 .0)))
-    × (now (e .1 .1 .1 .1 .1 .1 .1 .1 .1 .1 .1 .1 .1 .1 .0) ≡ now (d .1 .1 .1 .1 .1 .1 .1 .1 .1 .1 .1 .1 .1 .1 .0))
-    × (now (e .1 .1 .1 .1 .1 .1 .1 .1 .1 .1 .1 .1 .1 .1 .1 .0) ≡ now (d .1 .1 .1 .1 .1 .1 .1 .1 .1 .1 .1 .1 .1 .1 .1 .0)))
+    × (receivedState κs e ≡ receivedState κs d)
+    × (receivedBuffer κs e ≡ receivedBuffer κs d)
+    × (receivedLength κs e ≡ receivedLength κs d))
 
 -- the numbers of a state that `put` writes, and those that a foreign caller is given back at a gap notice
 abbrev pub PutTight : Type 0
@@ -145,7 +146,7 @@ PutTight =
 abbrev pub ForeignGapTight : Type 0
 ForeignGapTight =
     AnyTwo 5 fossknut-gap-kinds.ps fossknut-gap-kinds.r fossknut-gap-reads.Learnt
-    (λ κs z y e d. numbers (now (e .0)) (now (e .1 .0)) (now (e .1 .1 .0)) (now (e .1 .1 .1 .0)) (now (e .1 .1 .1 .1 .0)) ≡ numbers (now (d .0)) (now (d .1 .0)) (now (d .1 .1 .0)) (now (d .1 .1 .1 .0)) (now (d .1 .1 .1 .1 .0)))
+    (λ κs z y e d. gappedState κs e ≡ gappedState κs d)
 
 -- what `send` answers, and what it leaves in the output; the same where no piece size is given
 abbrev pub SendTight : Type 0
@@ -163,15 +164,15 @@ abbrev pub ForeignSendTight : Type 0
 ForeignSendTight =
     AnyTwo 3 fossknut-send-kinds.ps fossknut-send-kinds.r fossknut-send-reads.Learnt
     (λ κs z y e d. (z ≡ y)
-    × (now (e .1 .1 .1 .1 .1 .1 .1 .1 .1 .1 .1 .0) ≡ now (d .1 .1 .1 .1 .1 .1 .1 .1 .1 .1 .1 .0))
-    × (now (e .1 .1 .1 .1 .1 .1 .1 .1 .1 .1 .1 .1 .0) ≡ now (d .1 .1 .1 .1 .1 .1 .1 .1 .1 .1 .1 .1 .0)))
+    × (sentOutput κs e ≡ sentOutput κs d)
+    × (sentLength κs e ≡ sentLength κs d))
 
 abbrev pub ForeignSendByDefaultTight : Type 0
 ForeignSendByDefaultTight =
     AnyTwo 3 fossknut-send-by-default-kinds.ps fossknut-send-by-default-kinds.r fossknut-send-by-default-reads.Learnt
     (λ κs z y e d. (z ≡ y)
-    × (now (e .1 .1 .1 .1 .1 .1 .1 .1 .1 .1 .0) ≡ now (d .1 .1 .1 .1 .1 .1 .1 .1 .1 .1 .0))
-    × (now (e .1 .1 .1 .1 .1 .1 .1 .1 .1 .1 .1 .0) ≡ now (d .1 .1 .1 .1 .1 .1 .1 .1 .1 .1 .1 .0)))
+    × (sentByDefault κs e ≡ sentByDefault κs d)
+    × (lengthByDefault κs e ≡ lengthByDefault κs d))
 
 -- each number that the PES reader writes for a foreign caller
 abbrev pub ForeignPesTight : Type 0
@@ -195,7 +196,7 @@ NotificationTight =
 abbrev pub ForeignNotificationTight : Type 0
 ForeignNotificationTight =
     AnyTwo 2 fossknut-notification-kinds.ps fossknut-notification-kinds.r fossknut-notification-reads.Learnt
-    (λ κs z y e d. (z ≡ y) × (now (e .1 .1 .1 .1 .1 .1 .1 .0) ≡ now (d .1 .1 .1 .1 .1 .1 .1 .0)))
+    (λ κs z y e d. (z ≡ y) × (placeTold κs e ≡ placeTold κs d))
 
 pub record Tight : Type 0 where
   -- wire

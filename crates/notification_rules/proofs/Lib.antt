@@ -3,7 +3,6 @@ pub mod Entries
 pub mod Found
 pub mod Others
 pub mod Parts
-pub mod Pasts
 pub mod Pieces
 pub mod Places
 pub mod Sound

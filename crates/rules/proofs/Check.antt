@@ -3,14 +3,14 @@ use Prim.Native.Nat.{ℕ}
 use mathlib.Core.Path.{_≡_, refl}
 use mathlib.Core.List.{List}
 use mathlib.Core.Bool.{true}
-use Rattle.wire.specs.Choice.{both, numbered}
+use Rattle.wire.specs.Choice.{both, without}
 use Rattle.rules.specs.declared.Form.{Form}
 use Rattle.rules.specs.Check.{formLines, orderLines, faultLines}
 
-pub form-numbered : (f : Form) (s : List ℕ) → numbered (formLines f s) ≡ true
-unfolding numbered both formLines
+pub form-numbered : (f : Form) (s : List ℕ) → without 0 (formLines f s) ≡ true
+unfolding without both formLines
 form-numbered f s = refl
 
-pub fault-numbered : (f : Form) (s : List ℕ) → numbered (faultLines f s) ≡ true
-unfolding numbered both faultLines formLines orderLines
+pub fault-numbered : (f : Form) (s : List ℕ) → without 0 (faultLines f s) ≡ true
+unfolding without both faultLines formLines orderLines
 fault-numbered f s = refl

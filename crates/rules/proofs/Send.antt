@@ -17,7 +17,7 @@ use Rattle.rules.specs.declared.Sending.the-variants.{Sent, Unsent}
 use Rattle.rules.specs.Section.{header, sectionOf}
 use Rattle.rules.specs.Demand2.{Accepted, AcceptsExactly}
 use Rattle.rules.specs.Row.{joined}
-use Rattle.rules.specs.Send.{piece, sectionAt, sectionCount, sections, sectionsTo, sendLines, SendOutcome, sentOf, written}
+use Rattle.rules.specs.Send.{piece, sectionAt, sectionCount, sections, sectionsTo, sendingLength, sendingNumber, sendLines, SendOutcome, sentOf, written}
 use Rattle.rules.specs.Step.{goodSettings}
 use Rattle.rules.specs.Written.{Written}
 use Rattle.rules.proofs.Lists.{length-more}
@@ -73,6 +73,17 @@ module _ (c : Settings) (flag : Bool) (n : ℕ) (u out : List ℕ) where
   pub sent-is : firstOf (sendLines c flag n u out) ≡ 0 → sentOf c flag n u out ≡ written c flag n u out
   unfolding sentOf pick
   sent-is h = rw (eq-eqb _ 0 h)
+
+  -- the number 0 is given only with what is sent
+  pub sent-by-number : sendingNumber (sentOf c flag n u out .sending) ≡ 0
+      → sentOf c flag n u out .sending ≡ Sent (sendingLength (sentOf c flag n u out .sending))
+  unfolding written sendingNumber sendingLength
+  sent-by-number h = go (ℕ-discrete (firstOf (sendLines c flag n u out)) 0)
+    where
+      go : Dec (firstOf (sendLines c flag n u out) ≡ 0)
+          → sentOf c flag n u out .sending ≡ Sent (sendingLength (sentOf c flag n u out .sending))
+      go (yes q) = rw (sent-is q)
+      go (no q) = absurd (q (rw (unsent-is q) at h))
 
   -- ---- what a sender that refuses nothing gives
   pub record Given (m : ℕ) : Type 0 where

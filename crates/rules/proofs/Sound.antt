@@ -6,7 +6,7 @@ use mathlib.Core.Bool.{false}
 use mathlib.Core.List.{List}
 use lib.ListN.{length, length-take, length-drop}
 use borrow.Author.Tests.{ltb-false, eqb-true, not-false}
-use Rattle.wire.specs.Choice.{both, numbered}
+use Rattle.wire.specs.Choice.{both, without}
 use Rattle.wire.proofs.Choice.{either-false, none-first, none-parts}
 use Rattle.rules.specs.Section.{sectionLength, sectionNumber, lastSectionNumber, payload}
 use Rattle.rules.specs.Check.{tooShort, wrongLength, outOfOrder, addressScrambled, datagramForm}
@@ -20,7 +20,7 @@ pub record Sound (s : List ℕ) : Type 0 where
   pub clear : addressScrambled s ≡ false
 
 pub sound : (s : List ℕ) → check s ≡ 0 → Sound s
-unfolding check checkLines faultLines formLines orderLines numbered both tooShort wrongLength outOfOrder
+unfolding check checkLines faultLines formLines orderLines without both tooShort wrongLength outOfOrder
 sound s p =
     let table = none-parts (faultLines datagramForm s) _ refl p in
     let parts = none-parts (formLines datagramForm s) _ refl (table .0) in

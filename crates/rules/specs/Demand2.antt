@@ -28,10 +28,10 @@ pub record Arrives (c : Settings) (b : List ℕ) (xs : List (List ℕ)) (u : Lis
   pub delivered : (i : ℕ) → i + 1 ≡ length xs → answerAt c b xs i ≡ Delivered (length u)
   pub unit : take (length u) (after c (fresh b) (map section xs) .buffer) ≡ u
 
--- cut as the listing cuts, the n bytes that the sender gives are as many sections as 52 counts, and carry the unit to any buffer with room
-pub record Demand2 (c : Settings) (flag : Bool) (size : ℕ) (u out : List ℕ) (n : ℕ) : Type 0 where
-  pub counted : length (offers (take n (sentOf c flag size u out .output))) ≡ sectionCount size u
-  pub arrives : (b : List ℕ) → length u ≤ room b → Arrives c b (offers (take n (sentOf c flag size u out .output))) u
+-- cut as the listing cuts, these bytes are as many sections as 52 counts, and carry the unit to any buffer with room
+pub record Demand2 (c : Settings) (size : ℕ) (u bytes : List ℕ) : Type 0 where
+  pub counted : length (offers bytes) ≡ sectionCount size u
+  pub arrives : (b : List ℕ) → length u ≤ room b → Arrives c b (offers bytes) u
 
 -- none of 10 and 50 to 53 applies
 pub record Accepted (c : Settings) (flag : Bool) (size : ℕ) (u out : List ℕ) : Type 0 where
@@ -48,7 +48,8 @@ AcceptsExactly =
     (c : Settings) (flag : Bool) (size : ℕ) (u out : List ℕ) (n : ℕ)
     → (sentOf c flag size u out .sending ≡ Sent n) ↔ (Accepted c flag size u out × (n ≡ length u + 16 * sectionCount size u))
 
--- wherever the sender accepts: good settings, either flag, any unit, any piece size from 1 to 4,080
+-- the n bytes that the sender gives do, wherever it accepts: good settings, either flag, any unit, any piece size from 1 to 4,080
 abbrev pub RoundTrip : Type 0
 RoundTrip =
-    (c : Settings) (flag : Bool) (size : ℕ) (u out : List ℕ) (n : ℕ) → sentOf c flag size u out .sending ≡ Sent n → Demand2 c flag size u out n
+    (c : Settings) (flag : Bool) (size : ℕ) (u out : List ℕ) (n : ℕ) → sentOf c flag size u out .sending ≡ Sent n
+    → Demand2 c size u (take n (sentOf c flag size u out .output))

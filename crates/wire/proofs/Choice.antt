@@ -7,7 +7,7 @@ use lib.Dec.{eqb}
 use borrow.Author.Tests.{eq-eqb}
 use native.Mathlib.Decide.{ℕ-discrete}
 use native.Mathlib.Omega.{arith}
-use Rattle.wire.specs.Choice.{pick, both, either, Line, first, firstOf, numbered}
+use Rattle.wire.specs.Choice.{pick, both, either, Line, first, firstOf, without}
 
 -- no test is both
 pub never : false ≡ true → ⊥
@@ -57,25 +57,35 @@ unfolding firstOf
 firstOf-here [] b h = absurd (h refl)
 firstOf-here (l ∷ a) b h = here-step (l .applies) (l .number) (firstOf a) (firstOf (a ++ b)) h (firstOf-here a b)
 
-past-step : (t w : Bool) (n x y z : ℕ) → both (not (eqb n 0)) w ≡ true → first t n x ≡ 0 → (w ≡ true → x ≡ 0 → y ≡ z) → first t n y ≡ z
+-- a line that does not have the number gives it only by the rest
+without-step : {k : ℕ} (t w : Bool) (n x : ℕ) → both (not (eqb n k)) w ≡ true → first t n x ≡ k → (t ≡ false) × (w ≡ true) × (x ≡ k)
 unfolding first both
-past-step true w n x y z e h r = absurd (no-zero (eqb n 0) (eq-eqb n 0 h) e)
+without-step {k} true w n x e h = absurd (other (eqb n k) (eq-eqb n k h) e)
   where
-    no-zero : (q : Bool) → q ≡ true → both (not q) w ≡ true → ⊥
-    no-zero true p f = never f
-    no-zero false p f = never p
-past-step false w n x y z e h r = r (after (eqb n 0) e) h
+    other : (q : Bool) → q ≡ true → both (not q) w ≡ true → ⊥
+    other true p f = never f
+    other false p f = never p
+without-step {k} false w n x e h = (refl, behind (eqb n k) e, h)
   where
-    after : (q : Bool) → both (not q) w ≡ true → w ≡ true
-    after true f = absurd (never f)
-    after false f = f
+    behind : (q : Bool) → both (not q) w ≡ true → w ≡ true
+    behind true f = absurd (never f)
+    behind false f = f
 
 -- the first part gives none
-pub firstOf-past : (a b : List Line) → numbered a ≡ true → firstOf a ≡ 0 → firstOf (a ++ b) ≡ firstOf b
-unfolding firstOf numbered
+pub firstOf-past : (a b : List Line) → without 0 a ≡ true → firstOf a ≡ 0 → firstOf (a ++ b) ≡ firstOf b
+unfolding firstOf without first
 firstOf-past [] b e h = refl
 firstOf-past (l ∷ a) b e h =
-    past-step (l .applies) (numbered a) (l .number) (firstOf a) (firstOf (a ++ b)) (firstOf b) e h (firstOf-past a b)
+    let s = without-step (l .applies) (without 0 a) (l .number) (firstOf a) e h in
+    rw (s .0) (firstOf-past a b (s .1) (s .2))
+
+-- a table does not give a number that no line has
+pub firstOf-without : (n : ℕ) (a : List Line) → without n a ≡ true → (n ≡ 0 → ⊥) → firstOf a ≡ n → ⊥
+unfolding firstOf without
+firstOf-without n [] e z h = z (sym h)
+firstOf-without n (l ∷ a) e z h =
+    let s = without-step (l .applies) (without n a) (l .number) (firstOf a) e h in
+    firstOf-without n a (s .1) z (s .2)
 
 -- ---- a test that is taken apart
 pub both-true : (t u : Bool) → both t u ≡ true → (t ≡ true) × (u ≡ true)
@@ -105,7 +115,7 @@ pub none-first : (l : Line) (rest : List Line) → 0 < l .number → firstOf (l 
 unfolding firstOf
 none-first l rest h p = first-none (l .applies) (l .number) (firstOf rest) h p
 
-pub none-parts : (a b : List Line) → numbered a ≡ true → firstOf (a ++ b) ≡ 0 → (firstOf a ≡ 0) × (firstOf b ≡ 0)
+pub none-parts : (a b : List Line) → without 0 a ≡ true → firstOf (a ++ b) ≡ 0 → (firstOf a ≡ 0) × (firstOf b ≡ 0)
 none-parts a b h p = go (ℕ-discrete (firstOf a) 0)
   where
     go : Dec (firstOf a ≡ 0) → (firstOf a ≡ 0) × (firstOf b ≡ 0)

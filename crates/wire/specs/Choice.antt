@@ -37,7 +37,7 @@ unfoldable pub firstOf : List Line → ℕ
 firstOf [] = 0
 firstOf (l ∷ rest) = first (l .applies) (l .number) (firstOf rest)
 
--- every line has a number other than 0
-unfoldable pub numbered : List Line → Bool
-numbered [] = true
-numbered (l ∷ rest) = both (not (eqb (l .number) 0)) (numbered rest)
+-- no line has the number n
+unfoldable pub without : ℕ → List Line → Bool
+without n [] = true
+without n (l ∷ rest) = both (not (eqb (l .number) n)) (without n rest)
