@@ -36,9 +36,11 @@ table-tells {table} o t d = go (ℕ-discrete (firstOf table) 0) (ℕ-discrete (f
   where
     told : Answer → Type 0
     told a = handedAbroad (numberOf a) (lengthOf a) d ≡ handedBy a d
+
     kept : (o .step .answer ≡ Stored) ⊎ ((n : ℕ) × (o .step .answer ≡ Delivered n)) → told (o .step .answer)
     kept (inl q) = rw q
     kept (inr q) = rw (q .1)
+
     go : Dec (firstOf table ≡ 0) → Dec (firstOf table ≡ 2) → told (o .step .answer)
     go (yes e) r = kept (t .taken e)
     go (no e) (yes f) = rw (t .passed f)
