@@ -92,6 +92,14 @@ extern "C" {
     ) -> u8;
 }
 
+/// Calls a function whose first six arguments are the bytes of an address.
+macro_rules! with_address {
+    ($address:expr, $function:ident($($argument:expr),* $(,)?)) => {{
+        let [mac1, mac2, mac3, mac4, mac5, mac6] = $address;
+        $function(mac1, mac2, mac3, mac4, mac5, mac6, $($argument),*)
+    }};
+}
+
 /// What a number holds that the library has to write, whatever it answers.
 const UNWRITTEN: usize = usize::MAX;
 
@@ -123,30 +131,26 @@ pub(crate) fn receive(
     section: &[u8],
     buffer: &mut [u8],
 ) -> (u8, usize) {
-    let [mac1, mac2, mac3, mac4, mac5, mac6] = settings.address;
     let mut length = UNWRITTEN;
     // SAFETY: each pointer and length are those of one slice, and the other pointers those of
     // numbers; no two of them overlap, and none is kept. `section` is only read.
     let number = unsafe {
-        fossknut_receive(
-            mac1,
-            mac2,
-            mac3,
-            mac4,
-            mac5,
-            mac6,
-            settings.range,
-            settings.limit,
-            &mut state.run,
-            &mut state.next,
-            &mut state.last,
-            &mut state.filled,
-            &mut state.flag,
-            section.as_ptr(),
-            section.len(),
-            buffer.as_mut_ptr(),
-            buffer.len(),
-            &mut length,
+        with_address!(
+            settings.address,
+            fossknut_receive(
+                settings.range,
+                settings.limit,
+                &mut state.run,
+                &mut state.next,
+                &mut state.last,
+                &mut state.filled,
+                &mut state.flag,
+                section.as_ptr(),
+                section.len(),
+                buffer.as_mut_ptr(),
+                buffer.len(),
+                &mut length,
+            )
         )
     };
     (number, length)
@@ -173,26 +177,22 @@ pub(crate) fn send(
     unit: &[u8],
     output: &mut [u8],
 ) -> (u8, usize) {
-    let [mac1, mac2, mac3, mac4, mac5, mac6] = settings.address;
     let mut length = UNWRITTEN;
     // SAFETY: as for `receive`; `unit` is only read.
     let number = unsafe {
-        fossknut_send(
-            mac1,
-            mac2,
-            mac3,
-            mac4,
-            mac5,
-            mac6,
-            settings.range,
-            settings.limit,
-            flag,
-            size,
-            unit.as_ptr(),
-            unit.len(),
-            output.as_mut_ptr(),
-            output.len(),
-            &mut length,
+        with_address!(
+            settings.address,
+            fossknut_send(
+                settings.range,
+                settings.limit,
+                flag,
+                size,
+                unit.as_ptr(),
+                unit.len(),
+                output.as_mut_ptr(),
+                output.len(),
+                &mut length,
+            )
         )
     };
     (number, length)
@@ -205,25 +205,21 @@ pub(crate) fn send_by_default(
     unit: &[u8],
     output: &mut [u8],
 ) -> (u8, usize) {
-    let [mac1, mac2, mac3, mac4, mac5, mac6] = settings.address;
     let mut length = UNWRITTEN;
     // SAFETY: as for `send`.
     let number = unsafe {
-        fossknut_send_by_default(
-            mac1,
-            mac2,
-            mac3,
-            mac4,
-            mac5,
-            mac6,
-            settings.range,
-            settings.limit,
-            flag,
-            unit.as_ptr(),
-            unit.len(),
-            output.as_mut_ptr(),
-            output.len(),
-            &mut length,
+        with_address!(
+            settings.address,
+            fossknut_send_by_default(
+                settings.range,
+                settings.limit,
+                flag,
+                unit.as_ptr(),
+                unit.len(),
+                output.as_mut_ptr(),
+                output.len(),
+                &mut length,
+            )
         )
     };
     (number, length)
@@ -231,21 +227,13 @@ pub(crate) fn send_by_default(
 
 /// The answer's number, and where in the section the nine bytes are.
 pub(crate) fn notification(device: [u8; 6], section: &[u8]) -> (u8, usize) {
-    let [mac1, mac2, mac3, mac4, mac5, mac6] = device;
     let mut place = UNWRITTEN;
     // SAFETY: pointer and length are those of one slice, which is only read, and the other pointer
     // is that of a number; neither is kept.
     let number = unsafe {
-        fossknut_notification(
-            mac1,
-            mac2,
-            mac3,
-            mac4,
-            mac5,
-            mac6,
-            section.as_ptr(),
-            section.len(),
-            &mut place,
+        with_address!(
+            device,
+            fossknut_notification(section.as_ptr(), section.len(), &mut place)
         )
     };
     (number, place)
