@@ -24,13 +24,13 @@ use Rattle.notification_rules.specs.declared.Notice.{Notice}
 use Rattle.notification_rules.specs.Notice.{noticeNumber, noticeOf, noticePlace, partOf, refusal}
 use Rattle.pes_rules.specs.declared.Reading.{Reading}
 use Rattle.pes_rules.specs.Packet.{fault as pesFault, readOf, refused as pesRefused}
-use Rattle.rules.specs.Send.{defaultPiece, sendLines, sentOf, written}
+use Rattle.rules.specs.Send.{defaultPiece, sentOf}
 use Rattle.rules.proofs.Send.{sent-is, unsent-is}
 use Rattle.rules.specs.Section.{lastSectionNumber, payload, sectionNumber}
 use Rattle.rules.specs.Step.{barLines, finish, From, gapOf, goodSettings, goodState, keep, keyOf, laid, lay, Nowhere, ours, Outcome, outcome, Place, place, refuse, refuseFirst, room, stepOf}
 use Rattle.numbers.specs.Numbers.{stateOf}
 use Rattle.demands.specs.Abroad.{defaultFlag, defaultOutput, defaultSettings, defaultUnit, deviceGiven, receiveBuffer, receiveSection, receiveSettings, receiveState, sectionGiven, sendFlag, sendOutput, sendSettings, sendSize, sendUnit}
-use Rattle.demands.specs.Demand1.{ByTable, Demand1, nowhere, overfull, Sending1, tableOf}
+use Rattle.demands.specs.Demand1.{ByTable, Demand1, nowhere, overfull, SendByLines, StepByTable, tableOf}
 
 -- ---- a part of the table
 refuse-part : {σ : State} {o : Outcome} (a m : List Line) (b : List ℕ) → without 0 a ≡ true → without 2 a ≡ true
@@ -87,7 +87,7 @@ unfolding lay nowhere overfull firstOf first
 lay-part Nowhere s b = record { refused = λ x y. refl; passed = λ z. absurd (omega arith); taken = λ z. absurd (omega arith) }
 lay-part (From f) s b = fit-part f s b (leb (f + length (payload s)) (room b)) refl
 
-pub step-by-table : (c : Settings) (σ : State) (s b : List ℕ) → ByTable (tableOf c σ s b) σ b (stepOf c σ s b)
+pub step-by-table : (c : Settings) (σ : State) (s b : List ℕ) → StepByTable c σ s b (stepOf c σ s b)
 unfolding stepOf tableOf without both checkLines faultLines formLines orderLines barLines
 step-by-table c σ s b =
     refuse-part (line 10 (not (goodSettings c)) ∷ line 11 (not (goodState σ)) ∷ []) _ b refl refl
@@ -95,8 +95,7 @@ step-by-table c σ s b =
     (pass-part (ours c s) _ b (refuse-part (barLines c s) _ b refl refl (lay-part (place σ s) s b))))
 
 -- ---- the sender
-sent-by-lines : (c : Settings) (flag : Bool) (n : ℕ) (u out : List ℕ)
-    → Sending1 (sendLines c flag n u out) out (written c flag n u out) (sentOf c flag n u out)
+sent-by-lines : (c : Settings) (flag : Bool) (n : ℕ) (u out : List ℕ) → SendByLines c flag n u out (sentOf c flag n u out)
 sent-by-lines c flag n u out = record { refused = unsent-is c flag n u out; sent = sent-is c flag n u out }
 
 -- ---- the PES reader

@@ -1,6 +1,6 @@
--- Demand 1 of the receiver: a refusal's number is the first of the table that applies, nothing is handed out, the run is dropped and every
--- lent byte is as before; a section that is passed by leaves the state as given.
-use Prim.Native.Nat.{ℕ, _≤_, _+_}
+-- Demand 1 of the real contracts: a refusal's number is the first of the table that applies, nothing is handed out, the run is dropped and
+-- every lent byte is as before; a section that is passed by leaves the state as given.
+use Prim.Native.Nat.{ℕ, _+_}
 use mathlib.Core.Path.{_≡_}
 use mathlib.Core.Logic.{_⊎_}
 use mathlib.Core.List.{List, [], _∷_, _++_}
@@ -85,11 +85,17 @@ pub record ByTable (table : List Line) (σ : State) (b : List ℕ) (o : Outcome)
   -- where none applies, it is stored or the unit delivered
   pub taken : firstOf table ≡ 0 → (o .step .answer ≡ Stored) ⊎ ((n : ℕ) × (o .step .answer ≡ Delivered n))
 
--- ---- the sender's outcome, beside its refusals' lines, the output given, and the sections with what is behind them as it was
-pub record Sending1 (lines : List Line) (out : List ℕ) (w o : SendOutcome) : Type 0 where
+-- the outcome of a step is by the receiver's table
+abbrev pub StepByTable : Settings → State → List ℕ → List ℕ → Outcome → Type 0
+StepByTable c σ s b o = ByTable (tableOf c σ s b) σ b o
+
+-- ---- the sender's outcome, beside its refusals' lines
+pub record SendByLines (c : Settings) (flag : Bool) (n : ℕ) (u out : List ℕ) (o : SendOutcome) : Type 0 where
   -- a refusal has the first number that applies, gives no length and writes nothing
-  pub refused : (firstOf lines ≡ 0 → ⊥) → o ≡ record { sending = Unsent (firstOf lines); output = out }
-  pub sent : firstOf lines ≡ 0 → o ≡ w
+  pub refused : (firstOf (sendLines c flag n u out) ≡ 0 → ⊥)
+      → o ≡ record { sending = Unsent (firstOf (sendLines c flag n u out)); output = out }
+  -- where none applies, the sections stand from the start, and what is behind them is as it was
+  pub sent : firstOf (sendLines c flag n u out) ≡ 0 → o ≡ written c flag n u out
 
 -- ---- what the contracts of the code allow
 pub record Demand1 : Type 0 where
@@ -98,27 +104,17 @@ pub record Demand1 : Type 0 where
       (λ κs a z e. z ≡ firstOf (checkLines (now (a .0))))
   -- the step, for all settings, states, sections and buffers
   pub receive : Allowed 2 receive-kinds.ps receive-kinds.r receive-reads.Learnt
-      (λ κs a z e.
-      ByTable (tableOf (a .0) (a .1 .0) (now (a .1 .1 .0)) (now (a .1 .1 .1 .0)))
-      (a .1 .0)
-      (now (a .1 .1 .1 .0))
-      (record { step = z; buffer = now (e .1 .1 .1 .0) }))
+      (λ κs a z e. StepByTable (a .0) (a .1 .0) (now (a .1 .1 .0)) (now (a .1 .1 .1 .0)) (record { step = z; buffer = now (e .1 .1 .1 .0) }))
   -- a gap notice makes any state idle and is never refused
   pub gap : Allowed 0 gap-kinds.ps gap-kinds.r gap-reads.Learnt
       (λ κs a z e. z ≡ Idle)
   -- the sender
   pub send : Allowed 2 send-kinds.ps send-kinds.r send-reads.Learnt
-      (λ κs a z e.
-      Sending1 (sendLines (a .0) (a .1 .0) (a .1 .1 .0) (now (a .1 .1 .1 .0)) (now (a .1 .1 .1 .1 .0)))
-      (now (a .1 .1 .1 .1 .0))
-      (written (a .0) (a .1 .0) (a .1 .1 .0) (now (a .1 .1 .1 .0)) (now (a .1 .1 .1 .1 .0)))
+      (λ κs a z e. SendByLines (a .0) (a .1 .0) (a .1 .1 .0) (now (a .1 .1 .1 .0)) (now (a .1 .1 .1 .1 .0))
       (record { sending = z; output = now (e .1 .1 .1 .1 .0) }))
   -- the same where no piece size is given
   pub send-by-default : Allowed 2 send-by-default-kinds.ps send-by-default-kinds.r send-by-default-reads.Learnt
-      (λ κs a z e.
-      Sending1 (sendLines (a .0) (a .1 .0) defaultPiece (now (a .1 .1 .0)) (now (a .1 .1 .1 .0)))
-      (now (a .1 .1 .1 .0))
-      (written (a .0) (a .1 .0) defaultPiece (now (a .1 .1 .0)) (now (a .1 .1 .1 .0)))
+      (λ κs a z e. SendByLines (a .0) (a .1 .0) defaultPiece (now (a .1 .1 .0)) (now (a .1 .1 .1 .0))
       (record { sending = z; output = now (e .1 .1 .1 .0) }))
   -- the INT reader: a refusal gives the first of 12 to 18 and 30 to 33 that applies
   pub notice : Allowed 1 notice-kinds.ps notice-kinds.r notice-reads.Learnt
@@ -137,24 +133,17 @@ pub record Demand1 : Type 0 where
       (λ κs a z e. z ≡ firstOf (checkLines (now (a .0))))
   pub fossknut-receive : Allowed 8 fossknut-receive-kinds.ps fossknut-receive-kinds.r fossknut-receive-reads.Learnt
       (λ κs a z e. (o : Outcome)
-      × ByTable (tableOf (receiveSettings κs a) (stateOf (receiveState κs a)) (receiveSection κs a) (receiveBuffer κs a))
-      (stateOf (receiveState κs a)) (receiveBuffer κs a) o
+      × StepByTable (receiveSettings κs a) (stateOf (receiveState κs a)) (receiveSection κs a) (receiveBuffer κs a) o
       × Given o z (receivedLength κs e) (receivedState κs e) (receivedBuffer κs e))
   pub fossknut-gap : Allowed 5 fossknut-gap-kinds.ps fossknut-gap-kinds.r fossknut-gap-reads.Learnt
       (λ κs a z e. gappedState κs e ≡ numbersOf Idle)
   pub fossknut-send : Allowed 3 fossknut-send-kinds.ps fossknut-send-kinds.r fossknut-send-reads.Learnt
       (λ κs a z e. (o : SendOutcome)
-      × Sending1 (sendLines (sendSettings κs a) (sendFlag κs a) (sendSize κs a) (sendUnit κs a) (sendOutput κs a))
-      (sendOutput κs a)
-      (written (sendSettings κs a) (sendFlag κs a) (sendSize κs a) (sendUnit κs a) (sendOutput κs a))
-      o
+      × SendByLines (sendSettings κs a) (sendFlag κs a) (sendSize κs a) (sendUnit κs a) (sendOutput κs a) o
       × Gives o z (sentLength κs e) (sentOutput κs e))
   pub fossknut-send-by-default : Allowed 3 fossknut-send-by-default-kinds.ps fossknut-send-by-default-kinds.r fossknut-send-by-default-reads.Learnt
       (λ κs a z e. (o : SendOutcome)
-      × Sending1 (sendLines (defaultSettings κs a) (defaultFlag κs a) defaultPiece (defaultUnit κs a) (defaultOutput κs a))
-      (defaultOutput κs a)
-      (written (defaultSettings κs a) (defaultFlag κs a) defaultPiece (defaultUnit κs a) (defaultOutput κs a))
-      o
+      × SendByLines (defaultSettings κs a) (defaultFlag κs a) defaultPiece (defaultUnit κs a) (defaultOutput κs a) o
       × Gives o z (lengthByDefault κs e) (sentByDefault κs e))
   pub fossknut-notification : Allowed 2 fossknut-notification-kinds.ps fossknut-notification-kinds.r fossknut-notification-reads.Learnt
       (λ κs a z e. (refusal (sectionGiven κs a) ≡ 0 → ⊥) → (z ≡ refusal (sectionGiven κs a)) × (placeTold κs e ≡ 0))
