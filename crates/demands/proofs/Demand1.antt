@@ -104,7 +104,7 @@ unfolding readOf pick
 pes-by-lines s h = rw (ne-eqb (pesFault s) 0 h)
 
 -- ---- the INT reader
-notice-by-lines : (device : Address) (s : List ℕ) → (refusal s ≡ 0 → ⊥) → noticeOf device s ≡ NoticeRefused (refusal s)
+pub notice-by-lines : (device : Address) (s : List ℕ) → (refusal s ≡ 0 → ⊥) → noticeOf device s ≡ NoticeRefused (refusal s)
 unfolding noticeOf pick
 notice-by-lines device s h = rw (ne-eqb (refusal s) 0 h)
 

@@ -1,18 +1,22 @@
 -- Each contract is an equation with the rules' outcome, of which the rules' theorem speaks.
 use Prim.Native.Nat.{ℕ, _+_}
+use native.Mathlib.Decide.{ℕ-discrete}
 use mathlib.Core.Path.{_≡_, refl, sym, ap, _∙_}
 use mathlib.Core.List.{List}
 use mathlib.Core.Bool.{Bool}
 use lib.ListN.{take}
 use denote.Ref.{now, ptr}
+use Rattle.rules.specs.declared.Address.{Address}
 use Rattle.rules.specs.declared.Settings.{Settings}
 use Rattle.rules.specs.Demand2.{Demand2}
 use Rattle.rules.specs.Send.{defaultPiece, sendingLength, sendingNumber, sentOf}
 use Rattle.rules.proofs.Demand2.{round-trip}
 use Rattle.rules.proofs.Send.{accepts-exactly, sent-by-number}
 use Rattle.notification_rules.specs.declared.Notice.{Notice}
-use Rattle.notification_rules.specs.Notice.{noticeNumber, noticePlace, partOf, refusal}
+use Rattle.notification_rules.specs.Notice.{noticeNumber, noticeOf, noticePlace, partOf, refusal}
+use Rattle.notification_rules.specs.declared.Notice.the-variants.{Refused}
 use Rattle.notification_rules.proofs.Found.{found-exactly, takes}
+use Rattle.notification_rules.proofs.Filled.{taken-is-filled}
 use Rattle.notification_rules.proofs.Taken.{written-is-taken}
 use Rattle.pes_rules.specs.declared.Reading.{Reading}
 use Rattle.pes_rules.specs.Packet.{dataOf, readOf}
@@ -21,11 +25,19 @@ use Rattle.pes_rules.proofs.Read.{read-is-written}
 use Rattle.pes_rules.proofs.Written.{written-is-read}
 use Rattle.demands.specs.Abroad.{defaultFlag, defaultOutput, defaultSettings, defaultUnit, deviceGiven, sectionGiven, sendFlag, sendOutput, sendSettings, sendSize, sendUnit}
 use Rattle.demands.specs.Right.{Right}
+use Rattle.demands.proofs.Demand1.{notice-by-lines}
 
 -- where the number is 0, what is written carries the unit
 carried : (c : Settings) (flag : Bool) (size : ℕ) (u out : List ℕ) → sendingNumber (sentOf c flag size u out .sending) ≡ 0
     → Demand2 c size u (take (sendingLength (sentOf c flag size u out .sending)) (sentOf c flag size u out .output))
 carried c flag size u out h = round-trip c flag size u out (sendingLength (sentOf c flag size u out .sending)) (sent-by-number c flag size u out h)
+
+not-refused : (device : Address) (s : List ℕ) → ((k : ℕ) → noticeOf device s ≡ Refused k → ⊥) → refusal s ≡ 0
+not-refused device s h = go (ℕ-discrete (refusal s) 0)
+  where
+    go : Dec (refusal s ≡ 0) → refusal s ≡ 0
+    go (yes e) = e
+    go (no e) = absurd (h (refusal s) (notice-by-lines device s e))
 
 pub right : Right
 unfolding sendingNumber valuesOf
@@ -41,6 +53,7 @@ right =
       notice = λ κs a z e p h n.
           (λ q. found-exactly (a .0) (now (a .1 .0)) n h .0 (sym p ∙ q), λ w. p ∙ found-exactly (a .0) (now (a .1 .0)) n h .1 w);
       taken = λ κs a z e p n t w k q. takes (a .0) (now (a .1 .0)) (ap refusal w ∙ written-is-taken n t) k (sym p ∙ q);
+      filled = λ κs a z e p h. taken-is-filled (now (a .1 .0)) (not-refused (a .0) (now (a .1 .0)) (λ k q. h k (p ∙ q)));
       notification-read = λ κs a z e p h n w.
           let q = found-exactly (a .0) (now (a .1 .0)) n h .1 w in (
             p .number ∙ ap noticeNumber q,

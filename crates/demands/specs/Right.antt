@@ -11,7 +11,7 @@ use Rattle.rules.specs.Demand2.{Accepted, Demand2}
 use Rattle.rules.specs.Send.{defaultPiece, sectionCount}
 use Rattle.notification_rules.specs.declared.Notice.the-variants.{Found, Refused}
 use Rattle.notification_rules.specs.Notice.{refusal}
-use Rattle.notification_rules.specs.Right.{FirstAnswer, Notification, notificationWritten, Conforms}
+use Rattle.notification_rules.specs.Right.{Conforms, FilledSection, FirstAnswer, Notification, notificationWritten}
 use Rattle.pes_rules.specs.Written.{Bytes, Conforms as CanWrite, IsWritten, packetOf, Values}
 use Rattle.demands.specs.Abroad.{defaultSettings, defaultUnit, deviceGiven, lengthByDefault, placeTold, sectionGiven, sendFlag, sendOutput, sendSettings, sendSize, sendUnit, sentByDefault, sentLength, sentOutput}
 use Rattle.demands.specs.Allowed.{Allowed}
@@ -52,6 +52,9 @@ pub record Right : Type 0 where
   -- a section that is written as table 13 says is not refused
   pub taken : Allowed 1 notice-kinds.ps notice-kinds.r notice-reads.Learnt
       (λ κs a z e. (n : Notification) → Conforms n → now (a .1 .0) ≡ notificationWritten n → (k : ℕ) → z ≡ Refused k → ⊥)
+  -- and one that is not refused is filled exactly
+  pub filled : Allowed 1 notice-kinds.ps notice-kinds.r notice-reads.Learnt
+      (λ κs a z e. ((k : ℕ) → z ≡ Refused k → ⊥) → FilledSection (now (a .1 .0)))
   -- where such a pair is, `read` gives 3 and the nine bytes at that place, as that part of the section
   pub notification-read : Allowed 2 notification-read-kinds.ps notification-read-kinds.r notification-read-reads.Learnt
       (λ κs a z e. refusal (now (a .1 .0)) ≡ 0 → (p : ℕ) → FirstAnswer (a .0) (now (a .1 .0)) p

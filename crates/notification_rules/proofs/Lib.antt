@@ -1,5 +1,6 @@
 pub mod Cuts
 pub mod Entries
+pub mod Filled
 pub mod Found
 pub mod Others
 pub mod Parts

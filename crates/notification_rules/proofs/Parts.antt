@@ -7,7 +7,7 @@ use mathlib.Core.Logic.{_⊎_, inl, inr}
 use mathlib.Core.List.{List, [], _∷_, _++_, append-assoc, flatten, List·Memᴰ, List·Memᴰ·head, List·Memᴰ·tail, List·Memᴰ·not-nil, List·Memᴰ·cases-cons}
 use lib.ListN.{length, take, drop, length-append, length-drop, take-append-drop}
 use lib.Seq.{length-take-le, take-at, drop-at}
-use Rattle.wire.specs.Bytes.{byteAt}
+use Rattle.wire.specs.Bytes.{numberAt}
 use Rattle.wire.specs.Choice.{both}
 use Rattle.wire.proofs.Choice.{never}
 use Rattle.wire.specs.Part.{Part, part}
@@ -41,36 +41,34 @@ rejoined size =
     induct size (λ s c. flatten (c .pieces) ++ c .left ≡ s) (λ s h. refl)
     λ s h ih. append-assoc (take (size s) s) _ _ ∙ ap (λ (l : List ℕ). take (size s) s ++ l) ih ∙ take-append-drop (size s) s
 
--- a descriptor is as long as it says
-pub descriptor-long : (s d : List ℕ) → List·Memᴰ d (descriptorPieces s) → length d ≡ 2 + byteAt d 1
-unfolding descriptorSize
-descriptor-long s d =
-    induct descriptorSize (λ s c. List·Memᴰ d (c .pieces) → length d ≡ 2 + byteAt d 1) (λ s h m. absurd (List·Memᴰ·not-nil m))
+-- a piece is as long as it says, where its own bytes say it
+piece-long : (size : Size) → ((s : List ℕ) → size (take (size s) s) ≡ size s) → (s d : List ℕ) → List·Memᴰ d (cutOf size s .pieces)
+    → length d ≡ size d
+piece-long size own s d =
+    induct size (λ s c. List·Memᴰ d (c .pieces) → length d ≡ size d) (λ s h m. absurd (List·Memᴰ·not-nil m))
     (λ s h ih m. go s h ih (List·Memᴰ·cases-cons m)) s
   where
-    go : (s : List ℕ) → whole descriptorSize s ≡ true → (List·Memᴰ d (cutOf descriptorSize (drop (descriptorSize s) s) .pieces)
-        → length d ≡ 2 + byteAt d 1)
-        → (d ≡ take (descriptorSize s) s) ⊎ List·Memᴰ d (cutOf descriptorSize (drop (descriptorSize s) s) .pieces)
-        → length d ≡ 2 + byteAt d 1
-    go s h ih (inl e) =
-        rw (
-          e,
-          length-take-le (descriptorSize s) s (whole-true descriptorSize s h .1),
-          front (descriptorSize s) 1 s
-              (omega (arith, descriptor-two s)),
-        )
+    go : (s : List ℕ) → whole size s ≡ true → (List·Memᴰ d (cutOf size (drop (size s) s) .pieces) → length d ≡ size d)
+        → (d ≡ take (size s) s) ⊎ List·Memᴰ d (cutOf size (drop (size s) s) .pieces) → length d ≡ size d
+    go s h ih (inl e) = rw (e, length-take-le (size s) s (whole-true size s h .1)) (sym (own s))
     go s h ih (inr m) = ih m
 
--- a loop has its two length bytes
-pub loop-long : (s l : List ℕ) → List·Memᴰ l (cutOf loopSize s .pieces) → 2 ≤ length l
-loop-long s l =
-    induct loopSize (λ s c. List·Memᴰ l (c .pieces) → 2 ≤ length l) (λ s h m. absurd (List·Memᴰ·not-nil m))
-    (λ s h ih m. go s h ih (List·Memᴰ·cases-cons m)) s
+-- a descriptor's length is its second byte
+pub descriptor-long : (s d : List ℕ) → List·Memᴰ d (descriptorPieces s) → length d ≡ descriptorSize d
+unfolding descriptorSize
+descriptor-long = piece-long descriptorSize own
   where
-    go : (s : List ℕ) → whole loopSize s ≡ true → (List·Memᴰ l (cutOf loopSize (drop (loopSize s) s) .pieces) → 2 ≤ length l)
-        → (l ≡ take (loopSize s) s) ⊎ List·Memᴰ l (cutOf loopSize (drop (loopSize s) s) .pieces) → 2 ≤ length l
-    go s h ih (inl e) = rw (e, length-take-le (loopSize s) s (whole-true loopSize s h .1)) (loop-two s)
-    go s h ih (inr m) = ih m
+    own : (s : List ℕ) → descriptorSize (take (descriptorSize s) s) ≡ descriptorSize s
+    own s = ap (λ (n : ℕ). 2 + n) (front (descriptorSize s) 1 s (omega (arith, descriptor-two s)))
+
+-- a loop's length is in its first two bytes
+pub loop-long : (s l : List ℕ) → List·Memᴰ l (cutOf loopSize s .pieces) → length l ≡ loopSize l
+unfolding loopSize numberAt
+loop-long = piece-long loopSize own
+  where
+    own : (s : List ℕ) → loopSize (take (loopSize s) s) ≡ loopSize s
+    own s =
+        rw (front (loopSize s) 0 s (omega (arith, loop-two s)), front (loopSize s) 1 s (omega (arith, loop-two s)))
 
 -- ---- members
 pub every-one : {A : Type 0} (f : A → Bool) (xs : List A) (x : A) → every f xs ≡ true → List·Memᴰ x xs → f x ≡ true

@@ -89,8 +89,8 @@ loop-stands : (s : List ℕ) (l : Part) → List·Memᴰ l (loopsOf s) → Stand
 unfolding loopsOf loopCut
 loop-stands s l m = (
   piece-stands (checked s) 12 l m,
-  loop-long (drop 12 (checked s)) (l .bytes)
-      (placed-member 12 (cutOf loopSize (drop 12 (checked s)) .pieces) l m),
+  rw (loop-long (drop 12 (checked s)) (l .bytes) (placed-member 12 (cutOf loopSize (drop 12 (checked s)) .pieces) l m))
+      (loop-two (l .bytes)),
 )
 
 nine-long : (t n : ℕ) → t ≡ streamLocation → rightLength t n ≡ true → n ≡ 9
@@ -98,7 +98,7 @@ unfolding rightLength pick
 nine-long t n e h = eqb-true n 9 (rw e at h)
 
 pub nine-in : (s : List ℕ) (l d : Part) → Sound s → List·Memᴰ l (loopsOf s) → located (descriptorsOf l) ≡ at d → NineBytes s l d
-unfolding descriptorsOf loopsOf known
+unfolding descriptorsOf loopsOf known descriptorSize
 nine-in s l d ok m e =
     let o = located-one (placed (l .place + 2) (descriptorPieces (content (l .bytes)))) d e in
     let t = loop-stands s l m in

@@ -1,12 +1,12 @@
 -- What is right about the rules: theorems, shown in proofs/.
-use Prim.Native.Nat.{ℕ, _+_, _*_, _≤_}
+use Prim.Native.Nat.{ℕ, _+_, _*_, _%_, _^_, _≤_}
 use mathlib.Core.Path.{_≡_}
 use mathlib.Core.Bool.{true, false, not}
 use mathlib.Core.List.{List, [], _∷_, _++_, List·Memᴰ, flatten, map}
 use mathlib.Core.Logic.{_⊎_, _↔_}
-use lib.ListN.{length}
+use lib.ListN.{length, take, drop}
 use lib.Bits.{bitXor}
-use Rattle.wire.specs.Bytes.{byteAt, bytesOf, bits}
+use Rattle.wire.specs.Bytes.{byteAt, bytesOf, bits, numberAt}
 use Rattle.rules.specs.declared.Address.{Address}
 use Rattle.rules.specs.Section.{crcPlace, sealed}
 use Rattle.notification_rules.specs.declared.Notice.the-variants.{Found}
@@ -185,6 +185,25 @@ pub record Conforms (n : Notification) : Type 0 where
 
 abbrev pub WrittenIsTaken : Type 0
 WrittenIsTaken = (n : Notification) → Conforms n → refusal (notificationWritten n) ≡ 0
+
+-- ---- a section that is not refused is filled exactly, by loops, and each of these by descriptors of a right length
+-- a loop: two bytes whose low 12 bits are its length, and that many bytes, its descriptors
+pub record FilledLoop (l : List ℕ) : Type 0 where
+  pub descriptors : Descriptors
+  pub size : length l ≡ 2 + length (contentWritten descriptors)
+  pub says : numberAt 2 l 0 % 2 ^ 12 ≡ length (contentWritten descriptors)
+  pub holds : drop 2 l ≡ contentWritten descriptors
+  pub right : (d : ℕ × List ℕ) → List·Memᴰ d descriptors → RightLength d
+
+-- from byte 12 up to the CRC_32 loops stand back to back: the platform loop and pairs, an odd number
+pub record FilledSection (s : List ℕ) : Type 0 where
+  pub loops : List (List ℕ)
+  pub joined : drop 12 (take (crcPlace s) s) ≡ flatten loops
+  pub turns : odd loops ≡ true
+  pub each : (l : List ℕ) → List·Memᴰ l loops → FilledLoop l
+
+abbrev pub TakenIsFilled : Type 0
+TakenIsFilled = (s : List ℕ) → refusal s ≡ 0 → FilledSection s
 
 -- a 0x07 covers by one of its addresses, under its mask; a 0x0E by one of its pairs
 abbrev pub MasksCover : Type 0
