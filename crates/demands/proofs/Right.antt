@@ -11,6 +11,7 @@ use Rattle.rules.specs.declared.Settings.{Settings}
 use Rattle.rules.specs.Demand2.{Demand2}
 use Rattle.rules.specs.Send.{defaultPiece, sendingLength, sendingNumber, sentOf}
 use Rattle.rules.proofs.Demand2.{round-trip}
+use Rattle.rules.proofs.Read.{sound-is-written}
 use Rattle.rules.proofs.Send.{accepts-exactly, sent-by-number}
 use Rattle.notification_rules.specs.declared.Notice.{Notice}
 use Rattle.notification_rules.specs.Notice.{noticeNumber, noticeOf, noticePlace, partOf, refusal}
@@ -43,6 +44,7 @@ pub right : Right
 unfolding sendingNumber valuesOf
 right =
     record {
+      check = λ κs a z e p b q. sound-is-written (now (a .0)) b (sym p ∙ q);
       accepts = λ κs a z e p n.
           let t = accepts-exactly (a .0) (a .1 .0) (a .1 .1 .0) (now (a .1 .1 .1 .0)) (now (a .1 .1 .1 .1 .0)) n in
           (λ q. t .0 (sym (p .sending) ∙ q), λ w. p .sending ∙ t .1 w);
@@ -67,6 +69,7 @@ right =
       pes-taken = λ κs a z e p v c w.
           ap (λ (r : Reading). r .answer) (p ∙ ap readOf w) ∙ written-is-read v c .answered;
       pes-data = λ κs a z e p v c w. p .bytes ∙ ap dataOf w ∙ ap (λ (x : Values). x .dataBytes) (written-is-read v c .values);
+      fossknut-check = λ κs a z e p b q. sound-is-written (now (a .0)) b (sym p ∙ q);
       fossknut-accepts = λ κs a z e p.
           let t = accepts-exactly (sendSettings κs a) (sendFlag κs a) (sendSize κs a) (sendUnit κs a) (sendOutput κs a) in (
             λ q. t _ .0 (sent-by-number (sendSettings κs a) (sendFlag κs a) (sendSize κs a) (sendUnit κs a) (sendOutput κs a) (sym (p .number) ∙ q)) .0,

@@ -5,16 +5,20 @@ use mathlib.Core.Path.{_≡_}
 use mathlib.Core.Logic.{_↔_}
 use lib.ListN.{length, take, drop}
 use denote.Ref.{now, ptr}
+use Rattle.wire.specs.Bytes.{Bytes}
 use Rattle.wire.specs.Part.{Is, part}
 use Rattle.rules.specs.declared.Sending.the-variants.{Sent}
 use Rattle.rules.specs.Demand2.{Accepted, Demand2}
 use Rattle.rules.specs.Send.{defaultPiece, sectionCount}
+use Rattle.rules.specs.Written.{Rewritten}
 use Rattle.notification_rules.specs.declared.Notice.the-variants.{Found, Refused}
 use Rattle.notification_rules.specs.Notice.{refusal}
 use Rattle.notification_rules.specs.Right.{Conforms, FilledSection, FirstAnswer, Notification, notificationWritten}
-use Rattle.pes_rules.specs.Written.{Bytes, Conforms as CanWrite, IsWritten, packetOf, Values}
+use Rattle.pes_rules.specs.Written.{Conforms as CanWrite, IsWritten, packetOf, Values}
 use Rattle.demands.specs.Abroad.{defaultSettings, defaultUnit, deviceGiven, lengthByDefault, placeTold, sectionGiven, sendFlag, sendOutput, sendSettings, sendSize, sendUnit, sentByDefault, sentLength, sentOutput}
 use Rattle.demands.specs.Allowed.{Allowed}
+use Rattle.section.proofs.check.Reads as check-reads
+use Rattle.section.proofs.check.Kinds as check-kinds
 use Rattle.sender.proofs.send.Reads as send-reads
 use Rattle.sender.proofs.send.Kinds as send-kinds
 use Rattle.sender.proofs.send_by_default.Reads as send-by-default-reads
@@ -27,6 +31,8 @@ use Rattle.pes.proofs.read.Reads as pes-read-reads
 use Rattle.pes.proofs.read.Kinds as pes-read-kinds
 use Rattle.pes.proofs.data.Reads as pes-data-reads
 use Rattle.pes.proofs.data.Kinds as pes-data-kinds
+use Rattle.exports.proofs.fossknut_check.Reads as fossknut-check-reads
+use Rattle.exports.proofs.fossknut_check.Kinds as fossknut-check-kinds
 use Rattle.exports.proofs.fossknut_send.Reads as fossknut-send-reads
 use Rattle.exports.proofs.fossknut_send.Kinds as fossknut-send-kinds
 use Rattle.exports.proofs.fossknut_send_by_default.Reads as fossknut-send-by-default-reads
@@ -35,6 +41,9 @@ use Rattle.exports.proofs.fossknut_notification.Reads as fossknut-notification-
 use Rattle.exports.proofs.fossknut_notification.Kinds as fossknut-notification-kinds
 
 pub record Right : Type 0 where
+  -- a section that the check takes is what table 3 writes for the fields read
+  pub check : Allowed 1 check-kinds.ps check-kinds.r check-reads.Learnt
+      (λ κs a z e. Bytes (now (a .0)) → z ≡ 0 → Rewritten (now (a .0)))
   -- `send` accepts exactly where none of 10 and 50 to 53 applies, and gives the unit's bytes and 16 more for each section
   pub accepts : Allowed 2 send-kinds.ps send-kinds.r send-reads.Learnt
       (λ κs a z e. (n : ℕ) → (z ≡ Sent n)
@@ -68,6 +77,9 @@ pub record Right : Type 0 where
   -- and its data handed out
   pub pes-data : Allowed 1 pes-data-kinds.ps pes-data-kinds.r pes-data-reads.Learnt
       (λ κs a z e. (v : Values) → CanWrite v → now (a .0) ≡ packetOf v → now z ≡ v .dataBytes)
+  -- of the exported check
+  pub fossknut-check : Allowed 1 fossknut-check-kinds.ps fossknut-check-kinds.r fossknut-check-reads.Learnt
+      (λ κs a z e. Bytes (now (a .0)) → z ≡ 0 → Rewritten (now (a .0)))
   -- of the exported sender: 0 exactly where it accepts, and then what it has written gives back the unit
   pub fossknut-accepts : Allowed 3 fossknut-send-kinds.ps fossknut-send-kinds.r fossknut-send-reads.Learnt
       (λ κs a z e. (z ≡ 0) ↔ Accepted (sendSettings κs a) (sendFlag κs a) (sendSize κs a) (sendUnit κs a) (sendOutput κs a))

@@ -1,20 +1,19 @@
 -- What a cut leaves nothing of is its pieces, joined; and each piece is as long as it says, so it is what the writer writes.
-use Prim.Native.Nat.{ℕ, _+_, _-_, _*_, _/_, _%_, _≤_}
+use Prim.Native.Nat.{ℕ, _-_, _/_, _%_, _≤_}
 use native.Mathlib.Omega.{arith}
 use mathlib.Core.Path.{_≡_, refl, sym, ap, ap₂, _∙_}
-use mathlib.Core.Bool.{true, false}
+use mathlib.Core.Bool.{true}
 use mathlib.Core.Logic.{_⊎_, inl, inr}
 use mathlib.Core.List.{List, [], _∷_, _++_, append-nil, flatten, map, List·Memᴰ, List·Memᴰ·head, List·Memᴰ·tail, List·Memᴰ·not-nil, List·Memᴰ·cases-cons}
 use lib.ListN.{length, drop, length-drop}
 use borrow.Author.Tests.{eqb-true, leb-true}
-use Rattle.wire.specs.Bytes.{numberAt}
 use Rattle.wire.specs.Choice.{pick}
 use Rattle.wire.proofs.Choice.{both-true, never}
-use Rattle.notification_rules.specs.Cut.{Size, cutOf, every, isNil, odd}
+use Rattle.notification_rules.specs.Cut.{Size, cutOf, isNil}
 use Rattle.notification_rules.specs.Loop.{body, bodyLength, checked, content, descriptorPieces, descriptorSize, filled, loopCut, loopSize, tag}
-use Rattle.notification_rules.specs.Target.{macAddress, macAddressRange, rightLength, streamLocation}
+use Rattle.notification_rules.specs.Target.{rightLength}
 use Rattle.notification_rules.specs.Notice.{fits, known}
-use Rattle.notification_rules.specs.Right.{contentWritten, Descriptors, descriptorWritten, FilledLoop, FilledSection, RightLength, TakenIsFilled}
+use Rattle.notification_rules.specs.Right.{contentWritten, descriptorWritten, FilledLoop, RightLength, TakenIsFilled}
 use Rattle.notification_rules.proofs.Parts.{descriptor-long, every-one, loop-long, rejoined}
 use Rattle.notification_rules.proofs.Pieces.{loop-two}
 use Rattle.notification_rules.proofs.Sound.{sound}

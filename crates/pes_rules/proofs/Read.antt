@@ -11,13 +11,14 @@ use lib.ListN.{length, take, drop, length-drop, length-take, take-append-drop}
 use lib.Seq.{drop-drop, length-take-le, slice, take-add, take-length}
 use lib.Dec.{eqb, lit<}
 use borrow.Author.Tests.{eqb-true, ltb-false}
-use Rattle.wire.specs.Bytes.{byteAt, bits, numberAt, bytesOf}
+use Rattle.wire.specs.Bytes.{Bytes, byteAt, bits, numberAt, bytesOf}
+use Rattle.wire.proofs.Bytes.{bytesOf-numberAt, numberAt-lt}
 use Rattle.wire.specs.Choice.{pick, both, either}
 use Rattle.wire.proofs.Choice.{either-false, never}
 use Rattle.pes_rules.specs.Packet.{dataIdentifier, ptsExtensionFlag, outputDataRateFlag, pesDataPacketHeaderLength, flagged, ratePlace, privatePlace, dataPlace}
-use Rattle.pes_rules.specs.Written.{Bytes, Conforms, extensionField, flagsByte, optionalFields, packetOf, rateField, ReadIsWritten, Stream}
+use Rattle.pes_rules.specs.Written.{Conforms, extensionField, flagsByte, optionalFields, packetOf, rateField, ReadIsWritten, Stream}
 use Rattle.pes_rules.proofs.Answer.{answered, no-fault, None, takenValues, values-taken, within}
-use Rattle.pes_rules.proofs.Bytes.{bytesOf-numberAt, numberAt-lt, slice-bytes, slice-is}
+use Rattle.pes_rules.proofs.Bytes.{slice-bytes, slice-is}
 
 -- ---- identifier and flags
 stream-of : (n : ℕ) (e w : Bool) → both (not (eqb n 0x21)) (not (eqb n 0x22)) ≡ false

@@ -11,12 +11,12 @@ use lib.ListN.{length, drop, length-append}
 use lib.Seq.{drop-at, slice, take-at, take-length}
 use lib.Dec.{eqb, lit<}
 use borrow.Author.Tests.{le-ltb}
-use Rattle.wire.specs.Bytes.{byteAt, bits, numberAt, bytesOf}
+use Rattle.wire.specs.Bytes.{Bytes, byteAt, bits, numberAt, bytesOf}
 use Rattle.wire.specs.Choice.{pick, both, either}
 use Rattle.wire.proofs.Bytes.{length-bytesOf, numberAt-bytesOf}
 use Rattle.wire.proofs.Choice.{not-either}
 use Rattle.pes_rules.specs.Packet.{dataIdentifier, subStreamId, ptsExtensionFlag, outputDataRateFlag, pesDataPacketHeaderLength, flagged, ptsExtension, ratePlace, outputDataRate, privatePlace, dataPlace, wrongSize, otherIdentifier, wrongFlags, wrongHeaderLength}
-use Rattle.pes_rules.specs.Written.{Bytes, Conforms, extensionField, flagsByte, optionalFields, packetOf, rateField, Stream, Values, WrittenIsRead}
+use Rattle.pes_rules.specs.Written.{Conforms, extensionField, flagsByte, optionalFields, packetOf, rateField, Stream, Values, WrittenIsRead}
 use Rattle.pes_rules.proofs.Answer.{fault-none, None, read-taken, takenValues, values-taken}
 use Rattle.pes_rules.proofs.Bytes.{append-bytes, bytesOf-bytes, cons-bytes}
 

@@ -6,7 +6,7 @@ use mathlib.Core.List.{List, [], _∷_, _++_}
 use mathlib.Core.Bool.{Bool, true, false}
 use lib.ListN.{length}
 use lib.Seq.{slice}
-use Rattle.wire.specs.Bytes.{byteAt, bits, numberAt, bytesOf}
+use Rattle.wire.specs.Bytes.{Bytes, byteAt, bits, numberAt, bytesOf}
 use Rattle.wire.specs.Choice.{pick}
 use Rattle.pes_rules.specs.Packet.{dataIdentifier, subStreamId, flagged, ratePlace, privatePlace, readOf, dataOf}
 
@@ -45,10 +45,6 @@ flagsByte v =
 -- the packet that table 1 writes
 unfoldable pub packetOf : Values → List ℕ
 packetOf v = v .dataIdentifier ∷ v .subStreamId ∷ flagsByte v ∷ (optionalFields v ++ v .dataBytes)
-
--- every byte of s is one
-abbrev pub Bytes : List ℕ → Type 0
-Bytes s = (i : ℕ) → byteAt s i < 2 ^ 8
 
 -- a synchronous packet has a PTS_extension, a synchronized one no output_data_rate
 abbrev pub Stream : ℕ → Bool → Bool → Type 0

@@ -7,6 +7,7 @@ pub mod Finish
 pub mod Keys
 pub mod Lists
 pub mod Offer
+pub mod Read
 pub mod Row
 pub mod Runs
 pub mod Send

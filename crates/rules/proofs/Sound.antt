@@ -2,39 +2,58 @@
 use Prim.Native.Nat.{ℕ, _+_, _-_, _≤_}
 use native.Mathlib.Omega.{arith}
 use mathlib.Core.Path.{_≡_, refl}
-use mathlib.Core.Bool.{false}
 use mathlib.Core.List.{List}
-use lib.ListN.{length, length-take, length-drop}
-use borrow.Author.Tests.{ltb-false, eqb-true, not-false}
+use lib.ListN.{length, take, length-take, length-drop}
+use borrow.Author.Tests.{ltb-false, eqb-false, eqb-true, not-false}
 use Rattle.wire.specs.Choice.{both, without}
 use Rattle.wire.proofs.Choice.{either-false, none-first, none-parts}
-use Rattle.rules.specs.Section.{sectionLength, sectionNumber, lastSectionNumber, payload}
-use Rattle.rules.specs.Check.{tooShort, wrongLength, outOfOrder, addressScrambled, datagramForm}
+use Rattle.rules.specs.Crc.{crc32}
+use Rattle.rules.specs.Section.{addressScramblingControl, crcField, crcPlace, currentNextIndicator, lastSectionNumber, payload, privateIndicator, sectionLength, sectionNumber, sectionSyntaxIndicator, tableId}
+use Rattle.rules.specs.Check.{tooShort, otherTable, wrongLength, wrongSyntax, wrongCrc, notCurrent, outOfOrder, addressScrambled, datagramForm}
 use Rattle.rules.specs.Check.{formLines, orderLines, faultLines, checkLines, check}
 
 -- ---- what a sound section is
 pub record Sound (s : List ℕ) : Type 0 where
   pub long : 16 ≤ length s
+  pub table : tableId s ≡ 0x3E
   pub short : length s ≤ 4096
+  pub whole : sectionLength s + 3 ≡ length s
+  pub syntax : sectionSyntaxIndicator s ≡ 1
+  pub private : privateIndicator s ≡ 0
+  pub crc : crcField s ≡ crc32 (take (crcPlace s) s)
+  pub current : currentNextIndicator s ≡ 0 → ⊥
   pub order : sectionNumber s ≤ lastSectionNumber s
-  pub clear : addressScrambled s ≡ false
+  pub clear : addressScramblingControl s ≡ 0
 
 pub sound : (s : List ℕ) → check s ≡ 0 → Sound s
-unfolding check checkLines faultLines formLines orderLines without both tooShort wrongLength outOfOrder
+unfolding check checkLines faultLines formLines orderLines without both tooShort otherTable wrongLength wrongSyntax wrongCrc notCurrent outOfOrder addressScrambled
 sound s p =
-    let table = none-parts (faultLines datagramForm s) _ refl p in
-    let parts = none-parts (formLines datagramForm s) _ refl (table .0) in
+    let lines = none-parts (faultLines datagramForm s) _ refl p in
+    let parts = none-parts (formLines datagramForm s) _ refl (lines .0) in
     let t12 = none-first _ _ (omega arith) (parts .0) in
     let t13 = none-first _ _ (omega arith) (t12 .1) in
     let t14 = none-first _ _ (omega arith) (t13 .1) in
+    let t15 = none-first _ _ (omega arith) (t14 .1) in
     let t16 = none-first _ _ (omega arith) (parts .1) in
     let t17 = none-first _ _ (omega arith) (t16 .1) in
     let t18 = none-first _ _ (omega arith) (t17 .1) in
-    let t19 = none-first _ _ (omega arith) (table .1) in
+    let t19 = none-first _ _ (omega arith) (lines .1) in
     let lengths = either-false _ _ (t14 .0) in
+    let indicators = either-false _ _ (t15 .0) in
     let high : sectionLength s ≤ 4093 = ltb-false _ _ (lengths .0) in
     let same : sectionLength s + 3 ≡ length s = eqb-true _ _ (not-false _ (lengths .1)) in
-    record { long = ltb-false _ _ (t12 .0); short = omega arith; order = ltb-false _ _ (t18 .0); clear = t19 .0 }
+    record {
+      long = ltb-false _ _ (t12 .0);
+      table = eqb-true _ _ (not-false _ (t13 .0));
+      short = omega arith;
+      whole = same;
+      syntax = eqb-true _ _ (not-false _ (indicators .0));
+      private = eqb-true _ _ (not-false _ (indicators .1));
+      crc = eqb-true _ _ (not-false _ (t16 .0));
+      current = eqb-false _ _ (t17 .0);
+      order = ltb-false _ _ (t18 .0);
+      clear = eqb-true _ _ (not-false _ (t19 .0));
+    }
 
 pub payload-length : (s : List ℕ) → 16 ≤ length s → length (payload s) ≡ length s - 16
 unfolding payload

@@ -1,14 +1,15 @@
 -- Bytes past the end are 0, and a number's bytes, written and read, are the number.
 use Prim.Native.Nat.{ℕ, zero, suc, _+_, _*_, _/_, _%_, _^_, _≤_, _<_}
+use native.Mathlib.Nat.{mod-eq-of-lt, mod-one, mul-assoc, mul-add-div-right, mul-add-mod-self-right, one-le-pow, pow-succ'}
+use native.Mathlib.Numerals.{add-one}
 use native.Mathlib.Omega.{arith}
-use mathlib.Core.Path.{_≡_, refl, sym, ap}
-use native.Mathlib.Nat.{mod-one, one-le-pow, pow-succ'}
+use mathlib.Core.Path.{_≡_, refl, sym, ap, ap₂, _∙_}
 use mathlib.Core.List.{List, [], _∷_, _++_}
-use lib.Arith.{mod-mul}
+use lib.Arith.{digits-div, digits-lt, mod-mul}
 use lib.Dec.{lit<}
-use lib.ListN.{length, length-append, List·getD-eq-default}
-use lib.Seq.{append-snoc, getD-append-seam}
-use Rattle.wire.specs.Bytes.{byteAt, numberAt, bytesOf}
+use lib.ListN.{length, take, drop, length-append, List·getD-eq-default}
+use lib.Seq.{append-snoc, drop-cons, getD-append-seam}
+use Rattle.wire.specs.Bytes.{Bytes, byteAt, numberAt, bytesOf}
 
 -- nothing stands past the end
 pub numberAt-past : (n : ℕ) (s : List ℕ) (i : ℕ) → length s ≤ i → numberAt n s i ≡ 0
@@ -46,3 +47,48 @@ numberAt-bytesOf (suc n) x p q =
     rw (← l, ← append-snoc p b (bytesOf n x ++ q)) (numberAt-bytesOf n x (p ++ (b ∷ [])) q) in
     rw (getD-append-seam p b (bytesOf n x ++ q) 0, r, pow-succ' 256 n)
     (sym (mod-mul x (lit< tt) (one-le-pow n 256 (lit< tt))))
+
+-- ---- the bytes of the number that stands in a list are the list's, since each is below 256
+pow-pos : (n : ℕ) → 0 < 256 ^ n
+pow-pos n = one-le-pow n 256 (lit< tt)
+
+-- the n low bytes do not see what stands above them
+bytesOf-low : (n b y : ℕ) → bytesOf n (b * 256 ^ n + y) ≡ bytesOf n y
+unfolding bytesOf
+bytesOf-low zero b y = refl
+bytesOf-low (suc n) b y =
+    let e : b * 256 ^ suc n + y ≡ b * 256 * 256 ^ n + y =
+    ap (λ (k : ℕ). k + y) (ap (λ (k : ℕ). b * k) (pow-succ' 256 n) ∙ sym (mul-assoc b 256 (256 ^ n))) in
+    let q : (b * 256 * 256 ^ n + y) / 256 ^ n % 256 ≡ y / 256 ^ n % 256 =
+    ap (λ (k : ℕ). k % 256) (mul-add-div-right (pow-pos n) (b * 256) y) ∙ mul-add-mod-self-right b 256 (y / 256 ^ n) in
+    ap (bytesOf (suc n)) e ∙ ap₂ (λ (x : ℕ) (l : List ℕ). x ∷ l) q (bytesOf-low n (b * 256) y)
+
+pub numberAt-lt : (n : ℕ) (s : List ℕ) (i : ℕ) → Bytes s → numberAt n s i < 256 ^ n
+unfolding numberAt
+numberAt-lt zero s i h = lit< tt
+numberAt-lt (suc n) s i h = rw (pow-succ' 256 n) (digits-lt (h i) (numberAt-lt n s (i + 1) h))
+
+pub bytesOf-numberAt : (n : ℕ) (s : List ℕ) (i : ℕ) → Bytes s → i + n ≤ length s
+    → bytesOf n (numberAt n s i) ≡ take n (drop i s)
+unfolding numberAt bytesOf
+bytesOf-numberAt zero s i h k = refl
+bytesOf-numberAt (suc n) s i h k =
+    let b : ℕ = byteAt s i in
+    let y : ℕ = numberAt n s (i + 1) in
+    let q : (b * 256 ^ n + y) / 256 ^ n % 256 ≡ b =
+    ap (λ (x : ℕ). x % 256) (digits-div b (numberAt-lt n s (i + 1) h)) ∙ mod-eq-of-lt (h i) in
+    let r : bytesOf n y ≡ take n (drop (i + 1) s) = bytesOf-numberAt n s (i + 1) h (omega arith) in
+    let d : drop i s ≡ b ∷ drop (i + 1) s = rw (add-one i) (drop-cons s i 0 (omega arith)) in
+    ap₂ (λ (x : ℕ) (l : List ℕ). x ∷ l) q (bytesOf-low n b y ∙ r) ∙ ap (take (suc n)) (sym d)
+
+-- ---- a part of a list, byte by byte
+unfoldable pub bytesFrom : ℕ → ℕ → List ℕ → List ℕ
+bytesFrom zero i s = []
+bytesFrom (suc k) i s = byteAt s i ∷ bytesFrom k (i + 1) s
+
+pub take-bytes : (k i : ℕ) (s : List ℕ) → i + k ≤ length s → take k (drop i s) ≡ bytesFrom k i s
+unfolding bytesFrom
+take-bytes zero i s h = refl
+take-bytes (suc k) i s h =
+    let d : drop i s ≡ byteAt s i ∷ drop (i + 1) s = rw (add-one i) (drop-cons s i 0 (omega arith)) in
+    ap (take (suc k)) d ∙ ap (λ (l : List ℕ). byteAt s i ∷ l) (take-bytes k (i + 1) s (omega arith))

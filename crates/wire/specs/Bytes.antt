@@ -8,6 +8,10 @@ use lib.ListN.{length, getD, take, drop}
 abbrev pub byteAt : List ℕ → ℕ → ℕ
 byteAt s i = getD s i 0
 
+-- every one of them is a byte
+abbrev pub Bytes : List ℕ → Type 0
+Bytes s = (i : ℕ) → byteAt s i < 2 ^ 8
+
 -- bits h to l of a number, bit 0 the lowest
 abbrev pub bits : ℕ → ℕ → ℕ → ℕ
 bits h l x = x / 2 ^ l % 2 ^ (h - l + 1)
