@@ -12,7 +12,8 @@ use borrow.Author.Tests.{eq-eqb, le-leb}
 use Rattle.wire.specs.Bytes.{numberAt}
 use Rattle.wire.specs.Choice.{pick, both}
 use Rattle.notification_rules.specs.Cut.{Cut, cutOf, any}
-use Rattle.notification_rules.specs.Target.{addressBytes, addressNumber, sameUnder, inRange, entrySize, entryBytes, hit, covers}
+use Rattle.rules.specs.Address.{addressBytes}
+use Rattle.notification_rules.specs.Target.{addressNumber, sameUnder, inRange, entrySize, entryBytes, hit, covers}
 use Rattle.notification_rules.specs.Right.{descriptorWritten, OwnAddressCovers, MasksCover, RangesCover}
 use Rattle.notification_rules.proofs.Written.{cut-back}
 

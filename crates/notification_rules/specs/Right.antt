@@ -13,7 +13,8 @@ use Rattle.notification_rules.specs.declared.Notice.the-variants.{Found}
 use Rattle.wire.specs.Part.{Part}
 use Rattle.notification_rules.specs.Cut.{cutOf, isNil, any, odd}
 use Rattle.notification_rules.specs.Loop.{descriptorSize, loopCut, loopsOf, content, tag, descriptorsOf, Pair, pairsOf}
-use Rattle.notification_rules.specs.Target.{addressBytes, sameUnder, inRange, covers, nobody, coverOf}
+use Rattle.rules.specs.Address.{addressBytes}
+use Rattle.notification_rules.specs.Target.{sameUnder, inRange, covers, nobody, coverOf}
 use Rattle.notification_rules.specs.Notice.{misfit, refusal, noticeOf}
 
 -- ---- 3 is answered exactly where a pair covers the device and has a location, with the location of the first such pair

@@ -8,6 +8,7 @@ use lib.Dec.{leb, eqb}
 use Rattle.wire.specs.Bytes.{numberAt}
 use Rattle.wire.specs.Choice.{pick, both}
 use Rattle.rules.specs.declared.Address.{Address}
+use Rattle.rules.specs.Address.{addressBytes}
 use Rattle.wire.specs.Part.{Part}
 use Rattle.notification_rules.specs.Cut.{cutOf, isNil, any}
 use Rattle.notification_rules.specs.Loop.{tag, body, content, descriptorsOf, Pair}
@@ -29,9 +30,6 @@ rightLength t n =
     (pick (eqb t macAddressRange) (eqb (n % 12) 0) (pick (eqb t streamLocation) (eqb n 9) true))
 
 -- ---- addresses, as 48 bits; here MAC_address_1 stands first
-abbrev pub addressBytes : Address → List ℕ
-addressBytes a = a .mac1 ∷ a .mac2 ∷ a .mac3 ∷ a .mac4 ∷ a .mac5 ∷ a .mac6 ∷ []
-
 unfoldable pub addressNumber : Address → ℕ
 addressNumber a = numberAt 6 (addressBytes a) 0
 

@@ -7,9 +7,9 @@ use mathlib.Core.Bool.{Bool, true, false}
 use mathlib.Core.List.{List, [], _∷_, _++_, map}
 use lib.ListN.{length, take, length-take}
 use lib.Dec.{ltb}
-use borrow.Author.Tests.{eq-eqb, le-ltb}
+use borrow.Author.Tests.{eq-eqb}
 use Rattle.wire.specs.Bytes.{numberAt}
-use Rattle.wire.specs.Choice.{both, either, first, firstOf}
+use Rattle.wire.specs.Choice.{both, either}
 use Rattle.rules.specs.declared.Settings.{Settings}
 use Rattle.rules.specs.declared.Key.{Key}
 use Rattle.rules.specs.declared.Address.{Address}
@@ -20,7 +20,7 @@ use Rattle.rules.specs.Demand2.{Accepted, answerAt, Arrives, RoundTrip}
 use Rattle.rules.specs.Row.{after, elsewhere, Event, fresh, Held, joined, next, Piece, Receivable, section}
 use Rattle.rules.specs.Section.{header, sealed, sectionLength, sectionOf}
 use Rattle.rules.specs.Send.{piece, sectionAt, sectionCount, sections, sectionsTo, sentOf}
-use Rattle.rules.specs.Step.{bar, barLines, finish, keyOf, Outcome, ours, overLimit, payloadScrambled, room, stepOf}
+use Rattle.rules.specs.Step.{finish, keyOf, Outcome, ours, room, stepOf}
 use Rattle.rules.proofs.Cut.{Framed, offers-sections}
 use Rattle.rules.proofs.Due.{Due, refused, finished, stored, due, due-holds, Holds, started}
 use Rattle.rules.proofs.Lists.{map-more}
@@ -71,14 +71,15 @@ module _ (c : Settings) (flag : Bool) (n : ℕ) (u out : List ℕ) (a : Accepted
   key = record { last = count - 1; flag = flag }
 
   receivable : (i : ℕ) → i < count → Receivable c (at i)
-  unfolding sectionAt ours bar barLines overLimit payloadScrambled firstOf first
+  unfolding sectionAt ours
   receivable i h =
       let w = section-written c flag n u (a .some) (a .most) i h in
       let last : count - 1 + 1 ≤ c .limit = omega (arith, a .limit) in
       record {
         sound = w .sound;
         address = rw (w .addressed) (same-self (c .range) (c .address));
-        free = rw (w .clear, w .ending, le-ltb (c .limit) (count - 1 + 1) last);
+        clear = w .clear;
+        within = rw (w .ending) last;
       }
 
   agreed : (i : ℕ) → i < count → Piece c key i (at i)

@@ -20,6 +20,7 @@ use Rattle.rules.specs.Step.{bar, finish, goodSettings, goodState, keep,
 use Rattle.rules.specs.Step.{Outcome, ours, outcome, refuse, refuseFirst, stepOf}
 use Rattle.rules.specs.Row.{Event, section, Held, fresh, nothing, datagram, handedBy, elsewhere, joined}
 use Rattle.rules.specs.Row.{Receivable, WholeRun, Ready}
+use Rattle.rules.proofs.Sound.{no-bar, unbarred}
 use Rattle.rules.proofs.Runs.{EndsIn, ends-size, Next, next, Same, only, whole-ends}
 use Rattle.rules.proofs.Track.{key-last, in-order, room-bounds, room-same, laid-length, nowhere}
 use Rattle.rules.proofs.Track.{Gathered, Track, within, good-state, follows, placed, grown}
@@ -167,8 +168,9 @@ module _ (c : Settings) (b : List ℕ) where
         pick-case Here _ _ _ (λ sound.
         pick-case Here _ _ _ (λ address.
         pick-case Here _ _ _ (λ free.
-        lays (record { sound = eqb-true _ _ sound; address = address; free = eqb-true _ _ free }) (place (h .state) s) refl)
-        (λ barred. refusing (λ κ l. eqb-false _ _ barred (l .piece .receivable .free))))
+        let t = unbarred c s (eqb-true _ _ free) in
+        lays (record { sound = eqb-true _ _ sound; address = address; clear = t .0; within = t .1 }) (place (h .state) s) refl)
+        (λ barred. refusing (λ κ l. let r = l .piece .receivable in eqb-false _ _ barred (no-bar c s (r .clear) (r .within)))))
         (λ foreign. absurd (never (sym kept ∙ struck-is c s (eqb-true _ _ sound) foreign))))
         (λ faulty. refusing (λ κ l. eqb-false _ _ faulty (l .piece .receivable .sound))))
         (λ bad. absurd (eqb-false _ _ bad (settled c (h .state) good fine)))

@@ -1,4 +1,5 @@
 pub mod Check
+pub mod Compared
 pub mod Crc
 pub mod Cut
 pub mod Demand2

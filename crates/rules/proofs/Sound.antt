@@ -4,12 +4,14 @@ use native.Mathlib.Omega.{arith}
 use mathlib.Core.Path.{_≡_, refl}
 use mathlib.Core.List.{List}
 use lib.ListN.{length, take, length-take, length-drop}
-use borrow.Author.Tests.{ltb-false, eqb-false, eqb-true, not-false}
-use Rattle.wire.specs.Choice.{both, without}
+use borrow.Author.Tests.{le-ltb, ltb-false, eqb-false, eqb-true, not-false}
+use Rattle.wire.specs.Choice.{both, first, firstOf, without}
 use Rattle.wire.proofs.Choice.{either-false, none-first, none-parts}
 use Rattle.rules.specs.Crc.{crc32}
-use Rattle.rules.specs.Section.{addressScramblingControl, crcField, crcPlace, currentNextIndicator, lastSectionNumber, payload, privateIndicator, sectionLength, sectionNumber, sectionSyntaxIndicator, tableId}
+use Rattle.rules.specs.Section.{addressScramblingControl, crcField, crcPlace, currentNextIndicator, lastSectionNumber, payload, payloadScramblingControl, privateIndicator, sectionLength, sectionNumber, sectionSyntaxIndicator, tableId}
 use Rattle.rules.specs.Check.{tooShort, otherTable, wrongLength, wrongSyntax, wrongCrc, notCurrent, outOfOrder, addressScrambled, datagramForm}
+use Rattle.rules.specs.declared.Settings.{Settings}
+use Rattle.rules.specs.Step.{bar, barLines, overLimit, payloadScrambled}
 use Rattle.rules.specs.Check.{formLines, orderLines, faultLines, checkLines, check}
 
 -- ---- what a sound section is
@@ -61,3 +63,15 @@ payload-length s h = simp (length-take, length-drop) (omega arith)
 
 pub payload-small : (s : List ℕ) → check s ≡ 0 → length (payload s) ≤ 4080
 payload-small s p = let a : Sound s = sound s p in omega (arith, payload-length s (a .long))
+
+-- ---- neither 20 nor 21 applies
+pub unbarred : (c : Settings) (s : List ℕ) → bar c s ≡ 0 → (payloadScramblingControl s ≡ 0) × (lastSectionNumber s + 1 ≤ c .limit)
+unfolding bar barLines payloadScrambled overLimit
+unbarred c s p =
+    let t20 = none-first _ _ (omega arith) p in
+    let t21 = none-first _ _ (omega arith) (t20 .1) in
+    (eqb-true _ _ (not-false _ (t20 .0)), ltb-false _ _ (t21 .0))
+
+pub no-bar : (c : Settings) (s : List ℕ) → payloadScramblingControl s ≡ 0 → lastSectionNumber s + 1 ≤ c .limit → bar c s ≡ 0
+unfolding bar barLines payloadScrambled overLimit firstOf first
+no-bar c s e h = rw (e, le-ltb (c .limit) (lastSectionNumber s + 1) h)

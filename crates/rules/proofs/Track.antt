@@ -8,7 +8,7 @@ use mathlib.Core.List.{List, [], _∷_, _++_}
 use lib.ListN.{length, getD, take}
 use lib.Seq.{length-paste, take-paste, take-length}
 use lib.Dec.{eqb}
-use borrow.Author.Tests.{eqb-true, eq-eqb, ne-eqb, le-leb, leb-true, ltb-false}
+use borrow.Author.Tests.{eqb-true, eq-eqb, ne-eqb, le-leb, leb-true}
 use Rattle.wire.specs.Choice.{pick, both}
 use Rattle.rules.specs.declared.Settings.{Settings}
 use Rattle.rules.specs.declared.Key.{Key}
@@ -16,12 +16,12 @@ use Rattle.rules.specs.declared.State.{State}
 use Rattle.rules.specs.declared.State.the-variants.{Idle, Open}
 use Rattle.rules.specs.Check.{check}
 use Rattle.rules.specs.Section.{sectionNumber, lastSectionNumber, payload}
-use Rattle.rules.specs.Step.{bar, barLines, continues, goodRun, goodSettings, goodState, keyOf, laid, onward, overLimit}
+use Rattle.rules.specs.Step.{continues, goodRun, goodSettings, goodState, keyOf, laid, onward}
 use Rattle.rules.specs.Step.{Nowhere, From, place, room}
 use Rattle.rules.specs.Row.{Event, section, joined, Receivable, Piece}
 use Rattle.rules.proofs.Lists.{length-more}
 use Rattle.rules.proofs.Keys.{same-key, key-same}
-use Rattle.wire.proofs.Choice.{both-true, none-first}
+use Rattle.wire.proofs.Choice.{both-true}
 use Rattle.rules.proofs.Sound.{sound}
 use Rattle.rules.proofs.Runs.{EndsIn, Same, none, more, only, run-bytes, joined-more, joined-length}
 
@@ -32,14 +32,6 @@ key-last s = refl
 
 pub in-order : (s : List ℕ) → check s ≡ 0 → sectionNumber s ≤ keyOf s .last
 in-order s p = rw (key-last s) (sound s p .order)
-
--- 21 does not apply
-limit-kept : (c : Settings) (s : List ℕ) → bar c s ≡ 0 → keyOf s .last + 1 ≤ c .limit
-unfolding bar barLines overLimit
-limit-kept c s p =
-    let t20 = none-first _ _ (omega arith) p in
-    let t21 = none-first _ _ (omega arith) (t20 .1) in
-    rw (key-last s) (ltb-false _ _ (t21 .0))
 
 limit-small : (c : Settings) → goodSettings c ≡ true → c .limit ≤ 255
 unfolding goodSettings
@@ -89,7 +81,8 @@ module _ (c : Settings) (b : List ℕ) where
   pub within : {row : List Event} {κ : Key} {xs : List (List ℕ)} → EndsIn c b row κ xs → 0 < length xs → κ .last + 1 ≤ c .limit
   within {row} {κ} {xs} e some =
       let p : Piece c κ 0 (getD xs 0 []) = e .run .each 0 some in
-      rw (p .agrees) at (limit-kept c (getD xs 0 []) (p .receivable .free))
+      let last : keyOf (getD xs 0 []) .last + 1 ≤ c .limit = rw (key-last (getD xs 0 [])) (p .receivable .within) in
+      rw (p .agrees) at last
 
   -- such a state is good
   pub good-state : (row : List Event) (σ : State) (now : List ℕ) → goodSettings c ≡ true → Track row σ now → goodState σ ≡ true

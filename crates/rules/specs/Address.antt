@@ -1,7 +1,11 @@
 -- Which bytes of two addresses are compared: EN 301 192 V1.3.1, table 7; document 01, 'Settings'.
-use Prim.Native.Nat.{ℕ}
-use mathlib.Core.Bool.{Bool}
+use Prim.Native.Nat.{ℕ, _-_, _≤_}
+use mathlib.Core.Path.{_≡_}
+use mathlib.Core.Logic.{_↔_}
+use mathlib.Core.List.{List, [], _∷_}
+use mathlib.Core.Bool.{Bool, true}
 use lib.Dec.{eqb, ltb}
+use Rattle.wire.specs.Bytes.{byteAt}
 use Rattle.wire.specs.Choice.{both, either}
 use Rattle.rules.specs.declared.Address.{Address}
 
@@ -16,3 +20,13 @@ sameAddress range a b =
     (both (agree 2 range (a .mac5) (b .mac5))
     (both (agree 3 range (a .mac4) (b .mac4))
     (both (agree 4 range (a .mac3) (b .mac3)) (both (agree 5 range (a .mac2) (b .mac2)) (agree 6 range (a .mac1) (b .mac1))))))
+
+-- in printed order, MAC_address_1 first
+abbrev pub addressBytes : Address → List ℕ
+addressBytes a = a .mac1 ∷ a .mac2 ∷ a .mac3 ∷ a .mac4 ∷ a .mac5 ∷ a .mac6 ∷ []
+
+-- range n compares the last n bytes of an address, as it is printed: a theorem, shown in proofs/Compared.antt
+abbrev pub ComparesLast : Type 0
+ComparesLast =
+    (n : ℕ) (a b : Address)
+    → (sameAddress n a b ≡ true) ↔ ((i : ℕ) → 6 - n ≤ i → byteAt (addressBytes a) i ≡ byteAt (addressBytes b) i)

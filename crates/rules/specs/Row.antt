@@ -14,8 +14,8 @@ use Rattle.rules.specs.declared.Answer.{Answer}
 use Rattle.rules.specs.declared.Answer.the-variants.{Delivered, Stored, PassedBy, Refused}
 use Rattle.rules.specs.declared.Key.{Key}
 use Rattle.rules.specs.Check.{check}
-use Rattle.rules.specs.Section.{sectionNumber, payload}
-use Rattle.rules.specs.Step.{bar, gapOf, goodSettings, keyOf, Outcome, ours, room, stepOf}
+use Rattle.rules.specs.Section.{lastSectionNumber, payload, payloadScramblingControl, sectionNumber}
+use Rattle.rules.specs.Step.{gapOf, goodSettings, keyOf, Outcome, ours, room, stepOf}
 
 -- ---- a row, given to the receiver
 pub data Event : Type 0 where
@@ -70,11 +70,12 @@ unfoldable pub strike : Settings → List Event → List Event
 strike c [] = []
 strike c (e ∷ r) = pick (elsewhere c e) (strike c r) (e ∷ strike c r)
 
--- sound, for this address, none of 20 and 21
+-- sound, for this address, not scrambled (20), and its last number within the section limit (21)
 pub record Receivable (c : Settings) (s : List ℕ) : Type 0 where
   pub sound : check s ≡ 0
   pub address : ours c s ≡ true
-  pub free : bar c s ≡ 0
+  pub clear : payloadScramblingControl s ≡ 0
+  pub within : lastSectionNumber s + 1 ≤ c .limit
 
 -- section i of a run that agrees on κ: its last number and its flag
 pub record Piece (c : Settings) (κ : Key) (i : ℕ) (s : List ℕ) : Type 0 where
