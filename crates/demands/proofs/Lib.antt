@@ -1,4 +1,5 @@
 pub mod Demand1
+pub mod Meaning
 pub mod Right
 pub mod Rows
 pub mod Samples

@@ -11,14 +11,14 @@ use Rattle.rules.specs.declared.Settings.{Settings}
 use Rattle.rules.specs.Demand2.{Demand2}
 use Rattle.rules.specs.Send.{defaultPiece, sendingLength, sendingNumber, sentOf}
 use Rattle.rules.proofs.Demand2.{round-trip}
-use Rattle.rules.proofs.Read.{sound-is-written}
+use Rattle.rules.proofs.Exactly.{sound-exactly}
 use Rattle.rules.proofs.Send.{accepts-exactly, sent-by-number}
 use Rattle.notification_rules.specs.declared.Notice.{Notice}
 use Rattle.notification_rules.specs.Notice.{noticeNumber, noticeOf, noticePlace, partOf, refusal}
 use Rattle.notification_rules.specs.declared.Notice.the-variants.{Refused}
-use Rattle.notification_rules.proofs.Found.{found-exactly, takes}
-use Rattle.notification_rules.proofs.Filled.{taken-is-filled}
-use Rattle.notification_rules.proofs.Taken.{written-is-taken}
+use Rattle.notification_rules.proofs.Found.{found-exactly}
+use Rattle.notification_rules.proofs.Answered.{written-is-found}
+use Rattle.notification_rules.proofs.Rewritten.{taken-exactly}
 use Rattle.pes_rules.specs.declared.Reading.{Reading}
 use Rattle.pes_rules.specs.Packet.{dataOf, readOf}
 use Rattle.pes_rules.specs.Written.{Values, valuesOf}
@@ -44,7 +44,7 @@ pub right : Right
 unfolding sendingNumber valuesOf
 right =
     record {
-      check = λ κs a z e p b q. sound-is-written (now (a .0)) b (sym p ∙ q);
+      check = λ κs a z e p b. rw p (sound-exactly (now (a .0)) b);
       accepts = λ κs a z e p n.
           let t = accepts-exactly (a .0) (a .1 .0) (a .1 .1 .0) (now (a .1 .1 .1 .0)) (now (a .1 .1 .1 .1 .0)) n in
           (λ q. t .0 (sym (p .sending) ∙ q), λ w. p .sending ∙ t .1 w);
@@ -54,8 +54,8 @@ right =
           rw (p .output) (round-trip (a .0) (a .1 .0) defaultPiece (now (a .1 .1 .0)) (now (a .1 .1 .1 .0)) n (sym (p .sending) ∙ q));
       notice = λ κs a z e p h n.
           (λ q. found-exactly (a .0) (now (a .1 .0)) n h .0 (sym p ∙ q), λ w. p ∙ found-exactly (a .0) (now (a .1 .0)) n h .1 w);
-      taken = λ κs a z e p n t w k q. takes (a .0) (now (a .1 .0)) (ap refusal w ∙ written-is-taken n t) k (sym p ∙ q);
-      filled = λ κs a z e p h. taken-is-filled (now (a .1 .0)) (not-refused (a .0) (now (a .1 .0)) (λ k q. h k (p ∙ q)));
+      written = λ κs a z e p n t w. p ∙ ap (noticeOf (a .0)) w ∙ written-is-found (a .0) n t;
+      taken = λ κs a z e p b h. taken-exactly (now (a .1 .0)) b .0 (not-refused (a .0) (now (a .1 .0)) (λ k q. h k (p ∙ q)));
       notification-read = λ κs a z e p h n w.
           let q = found-exactly (a .0) (now (a .1 .0)) n h .1 w in (
             p .number ∙ ap noticeNumber q,
@@ -69,7 +69,7 @@ right =
       pes-taken = λ κs a z e p v c w.
           ap (λ (r : Reading). r .answer) (p ∙ ap readOf w) ∙ written-is-read v c .answered;
       pes-data = λ κs a z e p v c w. p .bytes ∙ ap dataOf w ∙ ap (λ (x : Values). x .dataBytes) (written-is-read v c .values);
-      fossknut-check = λ κs a z e p b q. sound-is-written (now (a .0)) b (sym p ∙ q);
+      fossknut-check = λ κs a z e p b. rw p (sound-exactly (now (a .0)) b);
       fossknut-accepts = λ κs a z e p.
           let t = accepts-exactly (sendSettings κs a) (sendFlag κs a) (sendSize κs a) (sendUnit κs a) (sendOutput κs a) in (
             λ q. t _ .0 (sent-by-number (sendSettings κs a) (sendFlag κs a) (sendSize κs a) (sendUnit κs a) (sendOutput κs a) (sym (p .number) ∙ q)) .0,

@@ -3,8 +3,7 @@ use Prim.Native.Nat.{ℕ}
 use native.Mathlib.Decide.{ℕ-discrete}
 use mathlib.Core.Path.{_≡_, refl, ap, _∙_}
 use mathlib.Core.Logic.{_⊎_, inl, inr}
-use mathlib.Core.List.{List}
-use mathlib.Core.Bool.{true}
+use mathlib.Core.List.{List, [], _∷_, _++_}
 use borrow.Author.Tests.{ne-eqb}
 use Rattle.wire.specs.Choice.{firstOf, Line, pick}
 use Rattle.rules.specs.declared.Settings.{Settings}
@@ -12,8 +11,9 @@ use Rattle.rules.specs.declared.State.{State}
 use Rattle.rules.specs.declared.Answer.{Answer}
 use Rattle.rules.specs.declared.Answer.the-variants.{Delivered, Stored}
 use Rattle.rules.specs.Row.{after, Event, fresh, Handed, handedBy, handedOver, Held, next}
-use Rattle.rules.specs.Step.{gapOf, goodSettings, lengthOf, numberOf, Outcome}
-use Rattle.rules.proofs.Row.{row-theorem}
+use Rattle.rules.specs.Step.{gapOf, lengthOf, numberOf, Outcome}
+use Rattle.rules.specs.Demand3.{OfBytes}
+use Rattle.rules.proofs.Demand3.{demand-3 as demand-3-holds}
 use Rattle.numbers.proofs.Meaning.{handed-on}
 use Rattle.demands.specs.Demand1.{ByTable}
 use Rattle.demands.specs.Rows.{a-gap, a-gap-abroad, a-section, a-section-abroad, ended, Given, GivenRow, handedAbroad, HandedRight, more, Tied}
@@ -58,10 +58,10 @@ unfolding after
 row c h r l (ended m) = refl
 row c h r l (more m e k d q n g w) = row c k q l w ∙ ap (λ (x : Held). after c x q) (held c h e k d g)
 
-demand-3 : (c : Settings) (b : List ℕ) → goodSettings c ≡ true → (r : List Event) (h : Held) → GivenRow c (fresh b) r h
-    → (e : Event) (k : Held) (d : Handed) → Given c h e k d → HandedRight c b r e d
-demand-3 c b good r h g e k d f =
-    let t = row-theorem c b good .each r e in
+demand-3 : (c : Settings) (b : List ℕ) (r : List Event) (h : Held) → GivenRow c (fresh b) r h
+    → (e : Event) (k : Held) (d : Handed) → Given c h e k d → OfBytes (r ++ (e ∷ [])) → HandedRight c b r e d
+demand-3 c b r h g e k d f given =
+    let t = demand-3-holds c b .each r e given in
     rw (handed c h e k d f, row c (fresh b) r h g) (record { struck = t .struck; exactly = t .exactly })
 
 pub tied : Tied

@@ -18,13 +18,13 @@ use Rattle.exports.proofs.fossknut_notification.Kinds as fossknut-notification-
 
 -- ---- fossknut_receive: settings, state, section, buffer; state, buffer and unit length after it
 abbrev pub receiveSettings : (κs : Lfts 8) → Dens κs fossknut-receive-kinds.ps → Settings
-receiveSettings κs a = settingsOf (a .0) (a .1 .0) (a .1 .1 .0) (a .1 .1 .1 .0) (a .1 .1 .1 .1 .0) (a .1 .1 .1 .1 .1 .0) (a .1 .1 .1 .1 .1 .1 .0) (a .1 .1 .1 .1 .1 .1 .1 .0)
+receiveSettings κs (m1, (m2, (m3, (m4, (m5, (m6, (range, (limit, _)))))))) = settingsOf m1 m2 m3 m4 m5 m6 range limit
 
 abbrev pub receiveState : (κs : Lfts 8) → Dens κs fossknut-receive-kinds.ps → Numbers
-receiveState κs a = numbers (now (a .1 .1 .1 .1 .1 .1 .1 .1 .0)) (now (a .1 .1 .1 .1 .1 .1 .1 .1 .1 .0)) (now (a .1 .1 .1 .1 .1 .1 .1 .1 .1 .1 .0)) (now (a .1 .1 .1 .1 .1 .1 .1 .1 .1 .1 .1 .0)) (now (a .1 .1 .1 .1 .1 .1 .1 .1 .1 .1 .1 .1 .0))
+receiveState κs (_, (_, (_, (_, (_, (_, (_, (_, (run, (next, (last, (filled, (flag, _))))))))))))) = numbers (now run) (now next) (now last) (now filled) (now flag)
 
 abbrev pub receiveSection : (κs : Lfts 8) → Dens κs fossknut-receive-kinds.ps → List ℕ
-receiveSection κs a = now (a .1 .1 .1 .1 .1 .1 .1 .1 .1 .1 .1 .1 .1 .0)
+receiveSection κs (_, (_, (_, (_, (_, (_, (_, (_, (_, (_, (_, (_, (_, (s, _)))))))))))))) = now s
 
 abbrev pub receiveBuffer : (κs : Lfts 8) → Dens κs fossknut-receive-kinds.ps → List ℕ
 receiveBuffer κs a = now (a .1 .1 .1 .1 .1 .1 .1 .1 .1 .1 .1 .1 .1 .1 .0)

@@ -1,6 +1,8 @@
 pub mod Abroad
 pub mod Allowed
+pub mod Contracts
 pub mod Demand1
+pub mod Meaning
 pub mod Right
 pub mod Rows
 pub mod Samples

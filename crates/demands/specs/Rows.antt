@@ -4,7 +4,6 @@ use Prim.Native.Nat.{ℕ}
 use mathlib.Core.Path.{_≡_}
 use mathlib.Core.Logic.{_↔_}
 use mathlib.Core.List.{List, [], _∷_, _++_}
-use mathlib.Core.Bool.{true, false}
 use lib.ListN.{take}
 use lib.Dec.{eqb}
 use contract.Lifetimes.{Lfts}
@@ -13,8 +12,8 @@ use denote.Triple.Clauses.{AtExit}
 use borrow.Fn.Kinds.{Dens, resT, endedOf}
 use Rattle.wire.specs.Choice.{pick}
 use Rattle.rules.specs.declared.Settings.{Settings}
-use Rattle.rules.specs.Row.{after, datagram, elsewhere, Event, fresh, gap, Handed, handedBy, handedOver, Held, nothing, Ready, section, strike}
-use Rattle.rules.specs.Step.{goodSettings}
+use Rattle.rules.specs.Demand3.{Elsewhere, OfBytes, Ready}
+use Rattle.rules.specs.Row.{after, datagram, Event, fresh, gap, Handed, handedBy, handedOver, Held, nothing, section, strike}
 use Rattle.numbers.specs.Numbers.{stateOf}
 use Rattle.demands.specs.Abroad.{gappedState, gapState, receiveBuffer, receivedBuffer, receivedLength, receivedState, receiveSection, receiveSettings, receiveState}
 use Rattle.receiver.proofs.receive.Reads as receive-reads
@@ -56,12 +55,12 @@ pub data GivenRow (c : Settings) : Held → List Event → Held → Type 0 where
 
 -- what is handed over at the event e behind the row r is as demand 3 says
 pub record HandedRight (c : Settings) (b : List ℕ) (r : List Event) (e : Event) (d : Handed) : Type 0 where
-  pub struck : elsewhere c e ≡ true → d ≡ nothing
-  pub exactly : elsewhere c e ≡ false → (n : ℕ) (u : List ℕ) → (d ≡ datagram n u) ↔ Ready c b (strike c (r ++ (e ∷ []))) n u
+  pub struck : Elsewhere c e → d ≡ nothing
+  pub exactly : (Elsewhere c e → ⊥) → (n : ℕ) (u : List ℕ) → (d ≡ datagram n u) ↔ Ready c b (strike c (r ++ (e ∷ []))) n u
 
 pub record Tied : Type 0 where
   pub row : (c : Settings) (h : Held) (r : List Event) (l : Held) → GivenRow c h r l → l ≡ after c h r
   pub handed : (c : Settings) (h : Held) (e : Event) (k : Held) (d : Handed) → Given c h e k d → d ≡ handedOver c h e
   -- so demand 3 holds of the code, behind any row given to it from a fresh start
-  pub demand-3 : (c : Settings) (b : List ℕ) → goodSettings c ≡ true → (r : List Event) (h : Held) → GivenRow c (fresh b) r h
-      → (e : Event) (k : Held) (d : Handed) → Given c h e k d → HandedRight c b r e d
+  pub demand-3 : (c : Settings) (b : List ℕ) (r : List Event) (h : Held) → GivenRow c (fresh b) r h
+      → (e : Event) (k : Held) (d : Handed) → Given c h e k d → OfBytes (r ++ (e ∷ [])) → HandedRight c b r e d

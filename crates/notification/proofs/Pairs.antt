@@ -212,3 +212,8 @@ pub covers-by : (device : Address) (d a : List ℕ) (t n : ℕ) (k : Bool) → t
 unfolding covers
 covers-by device d a t n k et en ea h =
     ap₂ (λ (m : ℕ) (z : List ℕ). any (hit device d) (cutOf (λ _. m) z .pieces)) (sym (en ∙ ap entrySize et)) (sym ea) ∙ h
+
+-- a pair that begins before the end ends before it
+pub pair-whole : (s : List ℕ) (o t p : ℕ) → Turns s o → o < length s → 2 + t ≡ loopSize (drop o s) → 2 + p ≡ loopSize (drop (o + 2 + t) s)
+    → o + 4 + t + p ≤ length s
+pair-whole s o t p k l et ep = omega (arith, second-whole s o k l (o + 2 + t) (omega arith))

@@ -14,7 +14,7 @@ use Rattle.wire.specs.Choice.{pick, both}
 use Rattle.notification_rules.specs.Cut.{Cut, cutOf, any}
 use Rattle.rules.specs.Address.{addressBytes}
 use Rattle.notification_rules.specs.Target.{addressNumber, sameUnder, inRange, entrySize, entryBytes, hit, covers}
-use Rattle.notification_rules.specs.Right.{descriptorWritten, OwnAddressCovers, MasksCover, RangesCover}
+use Rattle.notification_rules.specs.Right.{OwnAddressCovers, MasksCover, RangesCover}
 use Rattle.notification_rules.proofs.Written.{cut-back}
 
 pub own-address-covers : OwnAddressCovers
@@ -56,13 +56,13 @@ masks-cover device mask xs m h =
     ∙ same-tests (hit device d) (sameUnder device mask) same xs
   where
     d : List ℕ
-    d = descriptorWritten (0x07, mask ++ flatten xs)
+    d = 0x07 ∷ length (mask ++ flatten xs) ∷ (mask ++ flatten xs)
 
-    same : (e : List ℕ) → hit device (descriptorWritten (0x07, mask ++ flatten xs)) e ≡ sameUnder device mask e
+    same : (e : List ℕ) → hit device (0x07 ∷ length (mask ++ flatten xs) ∷ (mask ++ flatten xs)) e ≡ sameUnder device mask e
     same e = rw (number-front 6 mask (flatten xs) 0 (omega (arith, m)))
 
 pub ranges-cover : RangesCover
 unfolding covers entryBytes entrySize pick hit
 ranges-cover device xs h =
-    ap (any (hit device (descriptorWritten (0x0E, flatten xs)))) (entries-back 12 (omega arith) xs h)
-    ∙ same-tests (hit device (descriptorWritten (0x0E, flatten xs))) (inRange device) (λ e. refl) xs
+    ap (any (hit device (0x0E ∷ length (flatten xs) ∷ flatten xs))) (entries-back 12 (omega arith) xs h)
+    ∙ same-tests (hit device (0x0E ∷ length (flatten xs) ∷ flatten xs)) (inRange device) (λ e. refl) xs

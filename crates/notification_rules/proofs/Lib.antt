@@ -1,11 +1,13 @@
+pub mod Answered
 pub mod Cuts
 pub mod Entries
-pub mod Filled
 pub mod Found
+pub mod Meaning
 pub mod Others
 pub mod Parts
 pub mod Pieces
 pub mod Places
+pub mod Rewritten
 pub mod Sound
 pub mod Taken
 pub mod Written

@@ -17,7 +17,7 @@ no-entries : (d : List ℕ) → (tag d ≡ macAddress → ⊥) → (tag d ≡ ma
 unfolding entryBytes pick
 no-entries d m r = rw (ne-eqb (tag d) macAddress m, ne-eqb (tag d) macAddressRange r)
 
-other-covers : (device : Address) (d : List ℕ) → (tag d ≡ macAddress → ⊥) → (tag d ≡ macAddressRange → ⊥) → covers device d ≡ false
+pub other-covers : (device : Address) (d : List ℕ) → (tag d ≡ macAddress → ⊥) → (tag d ≡ macAddressRange → ⊥) → covers device d ≡ false
 unfolding covers any
 other-covers device d m r =
     ap (λ (a : List ℕ). any (hit device d) (cutOf (λ _. entrySize (tag d)) a .pieces)) (no-entries d m r)

@@ -3,3 +3,5 @@ pub mod Loop
 pub mod Target
 pub mod Notice
 pub mod Right
+pub mod Format
+pub mod Meaning

@@ -1,2 +1,3 @@
+pub mod Meaning
 pub mod Packet
 pub mod Written

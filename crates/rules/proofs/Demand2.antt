@@ -17,7 +17,12 @@ use Rattle.rules.specs.declared.Answer.the-variants.{Delivered, Stored}
 use Rattle.rules.specs.Address.{agree, sameAddress}
 use Rattle.rules.specs.Cut.{offers}
 use Rattle.rules.specs.Demand2.{Accepted, answerAt, Arrives, RoundTrip}
-use Rattle.rules.specs.Row.{after, elsewhere, Event, fresh, Held, joined, next, Piece, Receivable, section}
+use Rattle.rules.specs.Demand3 as InWords
+use Rattle.rules.specs.Sound.{table3, Values}
+use Rattle.rules.specs.Row.{after, elsewhere, Event, fresh, Held, next, section}
+use Rattle.rules.proofs.Good.{good-is}
+use Rattle.rules.proofs.Written.{sent, sent-is, sent-limits}
+use Rattle.rules.proofs.Tested.{joined, Piece, Receivable}
 use Rattle.rules.specs.Section.{header, sealed, sectionLength, sectionOf}
 use Rattle.rules.specs.Send.{piece, sectionAt, sectionCount, sections, sectionsTo, sentOf}
 use Rattle.rules.specs.Step.{finish, keyOf, Outcome, ours, room, stepOf}
@@ -82,6 +87,21 @@ module _ (c : Settings) (flag : Bool) (n : ℕ) (u out : List ℕ) (a : Accepted
         within = rw (w .ending) last;
       }
 
+  in-words : (i : ℕ) → i < count → (v : Values) × (at i ≡ table3 v) × InWords.Receivable c v
+  unfolding sectionAt
+  in-words i h =
+      let p : List ℕ = piece n u i in
+      let most : length p ≤ 4080 = omega (arith, piece-small n u i, a .most) in (
+        sent (c .address) flag i (count - 1) p,
+        sent-is (c .address) flag i (count - 1) p,
+        record {
+          limits = sent-limits (c .address) flag i (count - 1) p (omega arith) most;
+          own = λ j l. refl;
+          clear = refl;
+          within = omega (arith, a .limit);
+        },
+      )
+
   agreed : (i : ℕ) → i < count → Piece c key i (at i)
   unfolding sectionAt keyOf
   agreed i h =
@@ -124,7 +144,7 @@ module _ (c : Settings) (flag : Bool) (n : ℕ) (u out : List ℕ) (a : Accepted
     -- what is due at section k, by what is held before it
     due-at : (k : ℕ) → k < count → Holds c b (row k) (held k)
         → Due c b (row k) (held k .buffer) (at k) (stepOf c (held k .state) (at k) (held k .buffer))
-    due-at k h i = due c b (row k) (held k) i (at k) (a .settings) (kept k h)
+    due-at k h i = due c b (row k) (held k) i (at k) (good-is c .1 (a .settings)) (kept k h)
 
     holds-to : (k : ℕ) → k ≤ count → Holds c b (row k) (held k)
     unfolding sectionsTo next after
@@ -188,7 +208,7 @@ module _ (c : Settings) (flag : Bool) (n : ℕ) (u out : List ℕ) (a : Accepted
     arrives =
         let l = sections-length c flag n u count in
         record {
-          receivable = λ i h. rw (sections-at c flag n u count i (omega arith)) (receivable i (omega arith));
+          receivable = λ i h. rw (sections-at c flag n u count i (omega arith)) (in-words i (omega arith));
           stored = λ i h. answer-at i (omega arith) ∙ outcome-at i (omega arith) .stored (omega arith);
           delivered = λ i h. answer-at i (omega arith) ∙ outcome-at i (omega arith) .delivered (omega arith);
           unit = last (count - 1) (omega (arith, count-some n u));
@@ -198,7 +218,7 @@ module _ (c : Settings) (flag : Bool) (n : ℕ) (u out : List ℕ) (a : Accepted
         last k h = rw (← h, add-one k) (unit-at k h)
 
 pub round-trip : RoundTrip
-unfolding sections
+unfolding room sections
 round-trip c flag n u out m p =
     let g : Given c flag n u out m = given c flag n u out m p in
     let a = g .accepted in
@@ -210,5 +230,5 @@ round-trip c flag n u out m p =
     rw (sections-at c flag n u (sectionCount n u) i k) (framed c flag n u out a i k)) in
     record {
       counted = rw cut (sections-length c flag n u (sectionCount n u));
-      arrives = λ b room. rw cut (arrives c flag n u out a b room);
+      arrives = λ b h. rw cut (arrives c flag n u out a b (omega (arith, a .unit)));
     }

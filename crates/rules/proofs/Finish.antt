@@ -8,7 +8,8 @@ use lib.Seq.{length-take-le}
 use Rattle.rules.specs.declared.Settings.{Settings}
 use Rattle.rules.specs.declared.State.the-variants.{Idle}
 use Rattle.rules.specs.Step.{finish, Outcome}
-use Rattle.rules.specs.Row.{Event, Held, Handed, datagram, handedBy, joined, unit, Ends, WholeRun, Ready}
+use Rattle.rules.specs.Row.{Event, Held, Handed, datagram, handedBy}
+use Rattle.rules.proofs.Tested.{joined, unit, Ends, WholeRun, Ready}
 
 abbrev pub handed : Outcome → Handed
 handed o = handedBy (o .step .answer) (o .buffer)

@@ -15,11 +15,25 @@ use Rattle.wire.proofs.Bytes.{bytesFrom, bytesOf-numberAt, take-bytes}
 use Rattle.rules.specs.Check.{check}
 use Rattle.rules.specs.Crc.{crc32}
 use Rattle.rules.specs.Section.{address, addressScramblingControl, crcField, currentNextIndicator, lastSectionNumber, llcSnapFlag, payload, payloadScramblingControl, privateIndicator, sealed, sectionLength, sectionNumber, sectionSyntaxIndicator, tableId}
-use Rattle.rules.specs.Written.{rewritten, SoundIsWritten}
+use Rattle.rules.specs.Sound.{Limits, table3, Values}
 use Rattle.rules.proofs.Sound.{payload-length, payload-small, Sound, sound}
 
+-- ---- the values, read
+unfoldable pub read : List ℕ → Values
+read s =
+    record {
+      address = address s;
+      scrambling = payloadScramblingControl s;
+      flag = llcSnapFlag s;
+      number = sectionNumber s;
+      last = lastSectionNumber s;
+      payload = payload s;
+      reserved1 = bits 5 4 (byteAt s 1);
+      reserved5 = bits 7 6 (byteAt s 5);
+    }
+
 -- ---- the CRC_32 behind what it is of
-sealed-is : (s : List ℕ) → Bytes s → 4 ≤ length s → crcField s ≡ crc32 (take (length s - 4) s) → sealed (take (length s - 4) s) ≡ s
+pub sealed-is : (s : List ℕ) → Bytes s → 4 ≤ length s → crcField s ≡ crc32 (take (length s - 4) s) → sealed (take (length s - 4) s) ≡ s
 unfolding sealed crcField
 sealed-is s b h e =
     let n : length (drop (length s - 4) s) ≤ 4 = omega (arith, length-drop (length s - 4) s) in
@@ -41,7 +55,7 @@ lengthByte x y hx hy h7 h6 =
     rw (low, high, same) (omega arith)
 
 -- bits 3-2 are 00 and bit 0 is 1
-flagByte : (x k : ℕ) → x < 256 → x / 4 % 4 ≡ 0 → (x / 1 % 2 ≡ 0 → ⊥) → x / 2 % 2 ≡ k → 0x40 * (x / 64 % 4) + 0x10 * (x / 16 % 4) + (2 * k + 1) ≡ x
+flagByte : (x k : ℕ) → x < 256 → x / 4 % 4 ≡ 0 → (x / 1 % 2 ≡ 0 → ⊥) → x / 2 % 2 ≡ k → 0x40 * (x / 64 % 4) + 0x10 * (x / 16 % 4) + 2 * k + 1 ≡ x
 flagByte x k hx h3 h0 h1 =
     let one : x % 2 ≡ 1 = omega arith in
     let by4 : x / 2 / 2 ≡ x / 4 = div-div-eq-div-mul x 2 2 in
@@ -70,12 +84,12 @@ module _ (s : List ℕ) (b : Bytes s) (p : check s ≡ 0) where
   byte-2 : bits 7 0 (length (payload s) + 13) ≡ byteAt s 2
   byte-2 = rw (← counted) (omega (arith, b 1, b 2))
 
-  byte-5 : 0x40 * bits 7 6 (byteAt s 5) + 0x10 * payloadScramblingControl s + pick (llcSnapFlag s) 3 1 ≡ byteAt s 5
+  byte-5 : 0x40 * bits 7 6 (byteAt s 5) + 0x10 * payloadScramblingControl s + pick (llcSnapFlag s) 2 0 + 1 ≡ byteAt s 5
   unfolding payloadScramblingControl addressScramblingControl currentNextIndicator llcSnapFlag pick
   byte-5 = go (eqb (byteAt s 5 / 2 % 2) 1) refl
     where
       go : (t : Bool) → eqb (byteAt s 5 / 2 % 2) 1 ≡ t
-          → 0x40 * bits 7 6 (byteAt s 5) + 0x10 * (byteAt s 5 / 16 % 4) + pick t 3 1 ≡ byteAt s 5
+          → 0x40 * bits 7 6 (byteAt s 5) + 0x10 * (byteAt s 5 / 16 % 4) + pick t 2 0 + 1 ≡ byteAt s 5
       go true e = flagByte (byteAt s 5) 1 (b 5) (f .clear) (f .current) (eqb-true _ _ e)
       go false e =
           let other : byteAt s 5 / 2 % 2 ≡ 1 → ⊥ = eqb-false _ _ e in
@@ -96,11 +110,14 @@ module _ (s : List ℕ) (b : Bytes s) (p : check s ≡ 0) where
       ∙ sym (take-add 12 (length s - 4 - 12) s)
       ∙ ap (λ (k : ℕ). take k s) e
 
-  is : rewritten s ≡ s
-  unfolding rewritten behind address sectionNumber lastSectionNumber tableId
-  is =
+  -- table 3 writes it for the values read
+  pub read-is : table3 (read s) ≡ s
+  unfolding table3 read behind address sectionNumber lastSectionNumber tableId
+  read-is =
       rw (byte-1, byte-2, byte-5)
       (ap (λ (x : ℕ). sealed (x ∷ behind)) (sym (f .table)) ∙ ap sealed front-is ∙ sealed-is s b (omega (arith, f .long)) (f .crc))
 
-pub sound-is-written : SoundIsWritten
-sound-is-written s b p = record { is = is s b p; order = sound s p .order; size = payload-small s p }
+  pub read-limits : Limits (read s)
+  unfolding read payloadScramblingControl
+  read-limits =
+      record { scrambling = omega arith; reserved1 = omega arith; reserved5 = omega arith; order = f .order; size = payload-small s p }

@@ -11,7 +11,8 @@ use Rattle.wire.proofs.Choice.{never}
 use Rattle.rules.specs.declared.Settings.{Settings}
 use Rattle.rules.specs.Step.{gapOf, goodSettings, goodState}
 use Rattle.rules.specs.Row.{Event, section, gap, Held, fresh, next, after, nothing, datagram, handedBy, handedOver}
-use Rattle.rules.specs.Row.{elsewhere, strike, Ready, AtEvent, Once, RowTheorem}
+use Rattle.rules.specs.Row.{elsewhere, strike}
+use Rattle.rules.proofs.Tested.{Ready, AtEvent, Once, RowTheorem}
 use Rattle.rules.proofs.Runs.{no-gap, whole-ends, only, apart}
 use Rattle.rules.proofs.Track.{good-state}
 use Rattle.rules.proofs.Due.{no-datagram, passes, Holds, started, due-holds, due-hands, due}

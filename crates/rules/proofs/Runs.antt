@@ -10,7 +10,8 @@ use Rattle.rules.specs.declared.Settings.{Settings}
 use Rattle.rules.specs.declared.Key.{Key}
 use Rattle.rules.specs.Section.{payload}
 use Rattle.rules.specs.Step.{room}
-use Rattle.rules.specs.Row.{Event, section, gap, joined, Ends, Piece, Run, WholeRun}
+use Rattle.rules.specs.Row.{Event, section, gap}
+use Rattle.rules.proofs.Tested.{joined, Ends, Piece, Run, WholeRun}
 use Rattle.rules.proofs.Lists.{length-more, map-more, split-last, first-parts}
 use Rattle.rules.proofs.Sound.{payload-small}
 

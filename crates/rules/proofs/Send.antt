@@ -16,22 +16,19 @@ use Rattle.rules.specs.declared.Settings.{Settings}
 use Rattle.rules.specs.declared.Sending.the-variants.{Sent, Unsent}
 use Rattle.rules.specs.Section.{header, sectionOf}
 use Rattle.rules.specs.Demand2.{Accepted, AcceptsExactly}
-use Rattle.rules.specs.Row.{joined}
+use Rattle.rules.proofs.Tested.{joined}
 use Rattle.rules.specs.Send.{piece, sectionAt, sectionCount, sections, sectionsTo, sendingLength, sendingNumber, sendLines, SendOutcome, sentOf, written}
-use Rattle.rules.specs.Step.{goodSettings}
 use Rattle.rules.specs.Written.{Written}
 use Rattle.rules.proofs.Lists.{length-more}
 use Rattle.rules.proofs.Runs.{joined-more}
 use Rattle.wire.proofs.Choice.{both-true, none-first}
+use Rattle.rules.proofs.Good.{good-is}
 use Rattle.rules.proofs.Written.{sealed-length, written-is-read}
 
 -- ---- what is accepted
 -- the numbers of its sections are bytes
 pub count-byte : {c : Settings} {flag : Bool} {n : ℕ} {u out : List ℕ} → Accepted c flag n u out → sectionCount n u ≤ 255
-unfolding goodSettings
-count-byte {c} a =
-    let most : c .limit ≤ 255 = leb-true _ _ (both-true _ _ (both-true _ _ (a .settings) .1) .1) in
-    omega (arith, a .limit)
+count-byte a = omega (arith, a .limit, a .settings .limit255)
 
 module _ (c : Settings) (flag : Bool) (n : ℕ) (u out : List ℕ) where
   pub accepted : firstOf (sendLines c flag n u out) ≡ 0 → Accepted c flag n u out
@@ -44,7 +41,7 @@ module _ (c : Settings) (flag : Bool) (n : ℕ) (u out : List ℕ) where
       let t53 = none-first _ _ (omega arith) (t52 .1) in
       let size = both-true _ _ (not-false _ (t50 .0)) in
       record {
-        settings = not-false _ (t10 .0);
+        settings = good-is c .0 (not-false _ (t10 .0));
         some = leb-true _ _ (size .0);
         most = leb-true _ _ (size .1);
         unit = ltb-false _ _ (t51 .0);
@@ -56,7 +53,7 @@ module _ (c : Settings) (flag : Bool) (n : ℕ) (u out : List ℕ) where
   unfolding sendLines firstOf first both
   refuses-nothing a =
       rw (
-        a .settings,
+        good-is c .1 (a .settings),
         le-leb 1 n (a .some),
         le-leb n 4080 (a .most),
         le-ltb 65535 (length u) (a .unit),

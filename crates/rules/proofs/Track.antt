@@ -18,7 +18,8 @@ use Rattle.rules.specs.Check.{check}
 use Rattle.rules.specs.Section.{sectionNumber, lastSectionNumber, payload}
 use Rattle.rules.specs.Step.{continues, goodRun, goodSettings, goodState, keyOf, laid, onward}
 use Rattle.rules.specs.Step.{Nowhere, From, place, room}
-use Rattle.rules.specs.Row.{Event, section, joined, Receivable, Piece}
+use Rattle.rules.specs.Row.{Event, section}
+use Rattle.rules.proofs.Tested.{joined, Receivable, Piece}
 use Rattle.rules.proofs.Lists.{length-more}
 use Rattle.rules.proofs.Keys.{same-key, key-same}
 use Rattle.wire.proofs.Choice.{both-true}

@@ -4,16 +4,18 @@ use Prim.Native.Nat.{ℕ, _+_, _*_, _≤_, _<_}
 use mathlib.Core.Path.{_≡_}
 use mathlib.Core.Logic.{_↔_}
 use mathlib.Core.List.{List, [], flatten, map}
-use mathlib.Core.Bool.{Bool, true}
+use mathlib.Core.Bool.{Bool}
 use lib.ListN.{length, getD, take}
 use Rattle.rules.specs.declared.Settings.{Settings}
 use Rattle.rules.specs.declared.Sending.the-variants.{Sent}
 use Rattle.rules.specs.declared.Answer.{Answer}
 use Rattle.rules.specs.declared.Answer.the-variants.{Delivered, Stored}
 use Rattle.rules.specs.Cut.{offers}
-use Rattle.rules.specs.Row.{after, fresh, Held, Receivable, section}
+use Rattle.rules.specs.Demand3.{Good, Receivable}
+use Rattle.rules.specs.Row.{after, fresh, Held, section}
+use Rattle.rules.specs.Sound.{table3, Values}
 use Rattle.rules.specs.Send.{sectionCount, sections, sentOf}
-use Rattle.rules.specs.Step.{goodSettings, room, stepOf}
+use Rattle.rules.specs.Step.{stepOf}
 
 -- what a receiver answers to section i of the row xs, given after those before it to a fresh receiver with the buffer b
 unfoldable pub answerAt : Settings → List ℕ → List (List ℕ) → ℕ → Answer
@@ -23,7 +25,7 @@ answerAt c b xs i =
 
 -- the row xs carries the unit u to the buffer b
 pub record Arrives (c : Settings) (b : List ℕ) (xs : List (List ℕ)) (u : List ℕ) : Type 0 where
-  pub receivable : (i : ℕ) → i < length xs → Receivable c (getD xs i [])
+  pub receivable : (i : ℕ) → i < length xs → (v : Values) × (getD xs i [] ≡ table3 v) × Receivable c v
   pub stored : (i : ℕ) → i + 1 < length xs → answerAt c b xs i ≡ Stored
   pub delivered : (i : ℕ) → i + 1 ≡ length xs → answerAt c b xs i ≡ Delivered (length u)
   pub unit : take (length u) (after c (fresh b) (map section xs) .buffer) ≡ u
@@ -31,11 +33,11 @@ pub record Arrives (c : Settings) (b : List ℕ) (xs : List (List ℕ)) (u : Lis
 -- cut as the listing cuts, these bytes are as many sections as 52 counts, and carry the unit to any buffer with room
 pub record Demand2 (c : Settings) (size : ℕ) (u bytes : List ℕ) : Type 0 where
   pub counted : length (offers bytes) ≡ sectionCount size u
-  pub arrives : (b : List ℕ) → length u ≤ room b → Arrives c b (offers bytes) u
+  pub arrives : (b : List ℕ) → length u ≤ length b → Arrives c b (offers bytes) u
 
 -- none of 10 and 50 to 53 applies
 pub record Accepted (c : Settings) (flag : Bool) (size : ℕ) (u out : List ℕ) : Type 0 where
-  pub settings : goodSettings c ≡ true
+  pub settings : Good c
   pub some : 1 ≤ size
   pub most : size ≤ 4080
   pub unit : length u ≤ 65535

@@ -3,8 +3,11 @@ pub mod Check
 pub mod Crc
 pub mod Cut
 pub mod Demand2
+pub mod Demand3
+pub mod Meaning
 pub mod Row
 pub mod Section
 pub mod Send
+pub mod Sound
 pub mod Step
 pub mod Written

@@ -1,3 +1,4 @@
 pub mod Bytes
 pub mod Choice
+pub mod Meaning
 pub mod Part

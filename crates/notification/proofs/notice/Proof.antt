@@ -2,7 +2,7 @@
 use Rattle.notification.proofs.Answers.{below, looped, notice-refused, notice-nobody, notice-place, location-is}
 use Rattle.notification.specs.Readers.{Turns}
 use mathlib.Core.List.{List}
-use Rattle.notification.proofs.Pairs.{first-whole, second-whole}
+use Rattle.notification.proofs.Pairs.{first-whole, pair-whole, second-whole}
 use Rattle.notification_rules.specs.Loop.{loopSize}
 use Rattle.wire.proofs.Choice.{was}
 use denote.Ref.{now}
@@ -13,11 +13,6 @@ use Prim.Native.Nat.{ℕ, _+_, _≤_, _<_}
 use borrow.Author.Needs.{needs}
 use Rattle.notification.proofs.notice.Statement.{statement}
 use Rattle.notification.proofs.notice.Tie as tie
-
--- the pair stands before the end
-inside : (h : List ℕ) (q t o : ℕ) → Turns h q → q < length h → 2 + t ≡ loopSize (drop q h) → 2 + o ≡ loopSize (drop (q + 2 + t) h)
-    → q + 4 + t + o ≤ length h
-inside h q t o k l et eo = omega (arith, second-whole h q k l (q + 2 + t) (omega arith))
 
 refusal-requires : tie.Need-refusal-requires
 refusal-requires c κs = search needs
@@ -71,13 +66,13 @@ add-end c = search needs
 add-end-2 : tie.Need-add-end-2
 add-end-2 c = let H = c .before .before .before .before .before .checked in
     let Q = c .before .before .before .before .answering in
-    let w = inside (now (H .result)) _ _ _ (Q .ensures .turns) (below (Q .ensures .turns .inside) (c .before .before .before .if2 .left)) (c .before .loop-at2 .ensures .size) (c .loop-at3 .ensures .size) in
+    let w = pair-whole (now (H .result)) _ _ _ (Q .ensures .turns) (below (Q .ensures .turns .inside) (c .before .before .before .if2 .left)) (c .before .loop-at2 .ensures .size) (c .loop-at3 .ensures .size) in
     omega (arith, w)
 
 add-end-3 : tie.Need-add-end-3
 add-end-3 c = let H = c .before .before .before .before .before .checked in
     let Q = c .before .before .before .before .answering in
-    let w = inside (now (H .result)) _ _ _ (Q .ensures .turns) (below (Q .ensures .turns .inside) (c .before .before .before .if2 .left)) (c .before .loop-at2 .ensures .size) (c .loop-at3 .ensures .size) in
+    let w = pair-whole (now (H .result)) _ _ _ (Q .ensures .turns) (below (Q .ensures .turns .inside) (c .before .before .before .if2 .left)) (c .before .loop-at2 .ensures .size) (c .loop-at3 .ensures .size) in
     omega (arith, w)
 
 add-pick-place : tie.Need-add-pick-place

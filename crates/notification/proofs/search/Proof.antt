@@ -1,5 +1,5 @@
 -- The first pair that answers is the same from here as from the start; what is left of a loop or a descriptor covers as all of it does.
-use Rattle.notification.proofs.Pairs.{first-whole, second-whole, next-turns, skips, hits, ends, located-test, answers-empty, answers-some, answers-nowhere, no-descriptor, descriptor-hit, descriptor-miss, no-entry, entry-hit, entry-miss, covers-by}
+use Rattle.notification.proofs.Pairs.{first-whole, second-whole, pair-whole, next-turns, skips, hits, ends, located-test, answers-empty, answers-some, answers-nowhere, no-descriptor, descriptor-hit, descriptor-miss, no-entry, entry-hit, entry-miss, covers-by}
 use Rattle.notification.specs.Readers.{Turns, pairsFrom, pairAt, answersBy}
 use Rattle.notification_rules.proofs.Pieces.{descriptor-two, entry-some}
 use Rattle.wire.proofs.Lists.{from}
@@ -331,51 +331,35 @@ descriptors-again c = let R = now (c .before .before .before .before .before .be
     ∙ c .before .before .before .before .before .before .before .before .before .descriptors .inv
 
 add-at : tie.Need-add-at Inv-addresses μ-addresses Inv-descriptors μ-descriptors Inv-pairs μ-pairs
-add-at c = let A = c .before .before .before .before .before .before .before .before .args in
-    let S = now (A .s) in
-    let P = c .before .before .before .before .before .before .pairs in
-    let H1 = c .before .before .before .before .loop-at in
-    let H2 = c .before .before .before .loop-at2 in
-    let e : P .at + 2 + length (now (H1 .result)) ≡ P .at + loopSize (drop (P .at) S) = omega (arith, H1 .ensures .size) in
-    let w1 = first-whole S (P .at) (P .inv .0) (c .before .before .before .before .before .pairs-test .taken) in
-    let w2 = second-whole S (P .at) (P .inv .0) (c .before .before .before .before .before .pairs-test .taken) _ e in
-    omega (arith, H1 .ensures .size, H2 .ensures .size)
+add-at c = let P = c .before .before .before .before .before .before .pairs in
+    let w = pair-whole (now (c .before .before .before .before .before .before .before .before .args .s)) (P .at) _ _ (P .inv .0)
+    (c .before .before .before .before .before .pairs-test .taken) (c .before .before .before .before .loop-at .ensures .size)
+    (c .before .before .before .loop-at2 .ensures .size) in
+    omega (arith, w)
 
 add-at-2 :
     tie.Need-add-at-2 Inv-addresses μ-addresses Inv-descriptors μ-descriptors Inv-pairs μ-pairs
-add-at-2 c = let A = c .before .before .before .before .before .before .before .before .args in
-    let S = now (A .s) in
-    let P = c .before .before .before .before .before .before .pairs in
-    let H1 = c .before .before .before .before .loop-at in
-    let H2 = c .before .before .before .loop-at2 in
-    let e : P .at + 2 + length (now (H1 .result)) ≡ P .at + loopSize (drop (P .at) S) = omega (arith, H1 .ensures .size) in
-    let w1 = first-whole S (P .at) (P .inv .0) (c .before .before .before .before .before .pairs-test .taken) in
-    let w2 = second-whole S (P .at) (P .inv .0) (c .before .before .before .before .before .pairs-test .taken) _ e in
-    omega (arith, H1 .ensures .size, H2 .ensures .size)
+add-at-2 c = let P = c .before .before .before .before .before .before .pairs in
+    let w = pair-whole (now (c .before .before .before .before .before .before .before .before .args .s)) (P .at) _ _ (P .inv .0)
+    (c .before .before .before .before .before .pairs-test .taken) (c .before .before .before .before .loop-at .ensures .size)
+    (c .before .before .before .loop-at2 .ensures .size) in
+    omega (arith, w)
 
 add-at-3 :
     tie.Need-add-at-3 Inv-addresses μ-addresses Inv-descriptors μ-descriptors Inv-pairs μ-pairs
-add-at-3 c = let A = c .before .before .before .before .before .before .before .before .args in
-    let S = now (A .s) in
-    let P = c .before .before .before .before .before .before .pairs in
-    let H1 = c .before .before .before .before .loop-at in
-    let H2 = c .before .before .before .loop-at2 in
-    let e : P .at + 2 + length (now (H1 .result)) ≡ P .at + loopSize (drop (P .at) S) = omega (arith, H1 .ensures .size) in
-    let w1 = first-whole S (P .at) (P .inv .0) (c .before .before .before .before .before .pairs-test .taken) in
-    let w2 = second-whole S (P .at) (P .inv .0) (c .before .before .before .before .before .pairs-test .taken) _ e in
-    omega (arith, H1 .ensures .size, H2 .ensures .size)
+add-at-3 c = let P = c .before .before .before .before .before .before .pairs in
+    let w = pair-whole (now (c .before .before .before .before .before .before .before .before .args .s)) (P .at) _ _ (P .inv .0)
+    (c .before .before .before .before .before .pairs-test .taken) (c .before .before .before .before .loop-at .ensures .size)
+    (c .before .before .before .loop-at2 .ensures .size) in
+    omega (arith, w)
 
 pairs-less :
     tie.Need-pairs-less Inv-addresses μ-addresses Inv-descriptors μ-descriptors Inv-pairs μ-pairs
-pairs-less c = let A = c .before .before .before .before .before .before .before .before .args in
-    let S = now (A .s) in
-    let P = c .before .before .before .before .before .before .pairs in
-    let H1 = c .before .before .before .before .loop-at in
-    let H2 = c .before .before .before .loop-at2 in
-    let e : P .at + 2 + length (now (H1 .result)) ≡ P .at + loopSize (drop (P .at) S) = omega (arith, H1 .ensures .size) in
-    let w1 = first-whole S (P .at) (P .inv .0) (c .before .before .before .before .before .pairs-test .taken) in
-    let w2 = second-whole S (P .at) (P .inv .0) (c .before .before .before .before .before .pairs-test .taken) _ e in
-    omega (arith, H1 .ensures .size, H2 .ensures .size, c .before .before .before .before .before .pairs-test .taken)
+pairs-less c = let P = c .before .before .before .before .before .before .pairs in
+    let w = pair-whole (now (c .before .before .before .before .before .before .before .before .args .s)) (P .at) _ _ (P .inv .0)
+    (c .before .before .before .before .before .pairs-test .taken) (c .before .before .before .before .loop-at .ensures .size)
+    (c .before .before .before .loop-at2 .ensures .size) in
+    omega (arith, w, c .before .before .before .before .before .pairs-test .taken)
 
 pairs-again :
     tie.Need-pairs-again Inv-addresses μ-addresses Inv-descriptors μ-descriptors Inv-pairs μ-pairs

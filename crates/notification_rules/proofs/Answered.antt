@@ -1,0 +1,233 @@
+-- The search over what was cut back gives what the pairs that were written say.
+use Prim.Native.Nat.{ℕ, zero, suc, _+_, _*_, _/_, _%_, _^_, _<_}
+use native.Mathlib.Nat.{mod-eq-of-lt, mod-one, mod-lt, one-le-pow, pow-succ'}
+use native.Mathlib.Omega.{arith}
+use mathlib.Core.Path.{_≡_, refl, sym, ap, ap₂, _∙_}
+use mathlib.Core.Bool.{Bool, true, false, cond, _&&_, _||_}
+use mathlib.Core.Logic.{_⊎_, inl, inr}
+use mathlib.Core.List.{List, [], _∷_, _++_, append-nil, flatten, map, List·Memᴰ, List·Memᴰ·head, List·Memᴰ·tail, List·Memᴰ·not-nil, List·Memᴰ·cases-cons}
+use mathlib.Core.Option.{Option, none, some}
+use lib.Arith.{digits-div, mod-mul}
+use lib.Bits.{bitAnd, and-shr, and-mod, and-le-r}
+use lib.Dec.{eqb, leb, lit<}
+use lib.ListN.{length, length-append}
+use borrow.Author.Tests.{eq-eqb, ne-eqb, eqb-true, eqb-false}
+use Rattle.wire.specs.Bytes.{bytesOf, bit, numberAt}
+use Rattle.wire.specs.Choice.{pick, both}
+use Rattle.wire.specs.Part.{Part, part}
+use Rattle.wire.proofs.Bytes.{length-bytesOf, numberAt-bytesOf}
+use Rattle.rules.specs.declared.Address.{Address}
+use Rattle.notification_rules.specs.declared.Notice.{Notice}
+use Rattle.notification_rules.specs.Cut.{Cut, isNil, any, placed}
+use Rattle.notification_rules.specs.Loop.{descriptorPieces, descriptorsOf, loopsOf, Pair, pairsOf}
+use Rattle.notification_rules.specs.Target.{streamLocation, addressNumber, sameUnder, inRange, covers, by, coverFrom, coverOf, isCover, Location, nowhere, at, located, locationOf, answers, Choice, firstPair}
+use Rattle.notification_rules.specs.Target as target
+use Rattle.notification_rules.specs.Notice.{found, chosen, searched}
+use Rattle.notification_rules.specs.Format.{byTurns, Descriptor, masked, ranges, location, other, Loop, tagOf, rangeWritten, bodyWritten, descriptorWritten, contentWritten, loopWritten, pairWritten, notificationWritten, Held, Fits, FitsLoop, deviceNumber, sameWhere, one, targets, covered, isLocation, nineBytes, orElse, tell, answerFrom, answerTo, WrittenIsFound}
+use Rattle.notification_rules.proofs.Pieces.{covered-any}
+use Rattle.notification_rules.proofs.Entries.{masks-cover, ranges-cover}
+use Rattle.notification_rules.proofs.Others.{other-covers}
+use Rattle.notification_rules.proofs.Found.{unrefused}
+use Rattle.notification_rules.proofs.Taken.{range-length, loop-content, descriptors-cut, loops-cut, written-is-taken}
+
+-- ---- bit by bit
+pow-pos : (k : ℕ) → 0 < 2 ^ k
+pow-pos k = one-le-pow k 2 (lit< tt)
+
+-- two numbers of a digit and a rest each
+digit-eqb : (c u v x y : ℕ) → x < c → y < c → eqb (u * c + x) (v * c + y) ≡ (eqb u v && eqb x y)
+digit-eqb c u v x y h g = go (eqb u v) refl (eqb x y) refl
+  where
+    go : (p : Bool) → eqb u v ≡ p → (q : Bool) → eqb x y ≡ q → eqb (u * c + x) (v * c + y) ≡ (p && q)
+    go true e true f =
+        eq-eqb _ _ (ap₂ (λ (a b : ℕ). a * c + b) (eqb-true u v e) (eqb-true x y f))
+    go true e false f =
+        let w : u * c ≡ v * c = ap (λ (a : ℕ). a * c) (eqb-true u v e) in
+        ne-eqb (u * c + x) (v * c + y) (λ z. eqb-false x y f (omega arith))
+    go false e q f =
+        ne-eqb _ _ (λ z. eqb-false u v e (sym (digits-div u h) ∙ ap (λ (a : ℕ). a / c) z ∙ digits-div v g))
+
+-- one bit of each
+bit-eqb : (p q r : ℕ) → p < 2 → q < 2 → r < 2 → eqb (bitAnd p q) (bitAnd r q) ≡ (eqb q 0 || eqb p r)
+bit-eqb zero zero zero a b c = refl
+bit-eqb zero zero (suc zero) a b c = refl
+bit-eqb zero zero (suc (suc r)) a b c = absurd (omega arith)
+bit-eqb zero (suc zero) zero a b c = refl
+bit-eqb zero (suc zero) (suc zero) a b c = refl
+bit-eqb zero (suc zero) (suc (suc r)) a b c = absurd (omega arith)
+bit-eqb zero (suc (suc q)) r a b c = absurd (omega arith)
+bit-eqb (suc zero) zero zero a b c = refl
+bit-eqb (suc zero) zero (suc zero) a b c = refl
+bit-eqb (suc zero) zero (suc (suc r)) a b c = absurd (omega arith)
+bit-eqb (suc zero) (suc zero) zero a b c = refl
+bit-eqb (suc zero) (suc zero) (suc zero) a b c = refl
+bit-eqb (suc zero) (suc zero) (suc (suc r)) a b c = absurd (omega arith)
+bit-eqb (suc zero) (suc (suc q)) r a b c = absurd (omega arith)
+bit-eqb (suc (suc p)) q r a b c = absurd (omega arith)
+
+-- bit k of both
+and-bit : (k a m : ℕ) → bit k (bitAnd a m) ≡ bitAnd (bit k a) (bit k m)
+and-bit k a m = ap (λ (x : ℕ). x % 2) (and-shr a m k) ∙ and-mod (a / 2 ^ k) (m / 2 ^ k) 1
+
+low-bits : (k m a d : ℕ) → eqb (bitAnd a m % 2 ^ k) (bitAnd d m % 2 ^ k) ≡ sameWhere k m a d
+unfolding sameWhere
+low-bits zero m a d = rw (mod-one (bitAnd a m), mod-one (bitAnd d m))
+low-bits (suc k) m a d =
+    let x : ℕ = bitAnd a m in
+    let y : ℕ = bitAnd d m in
+    let e : x % 2 ^ suc k ≡ bit k x * 2 ^ k + x % 2 ^ k = ap (λ (n : ℕ). x % n) (pow-succ' 2 k) ∙ mod-mul x (lit< tt) (pow-pos k) in
+    let f : y % 2 ^ suc k ≡ bit k y * 2 ^ k + y % 2 ^ k = ap (λ (n : ℕ). y % n) (pow-succ' 2 k) ∙ mod-mul y (lit< tt) (pow-pos k) in
+    ap₂ eqb e f
+    ∙ digit-eqb (2 ^ k) (bit k x) (bit k y) (x % 2 ^ k) (y % 2 ^ k) (mod-lt x (pow-pos k)) (mod-lt y (pow-pos k))
+    ∙ ap₂ _&&_
+    (ap₂ eqb (and-bit k a m) (and-bit k d m)
+    ∙ bit-eqb (bit k a) (bit k m) (bit k d) (mod-lt (a / 2 ^ k) (lit< tt)) (mod-lt (m / 2 ^ k) (lit< tt)) (mod-lt (d / 2 ^ k) (lit< tt)))
+    (low-bits k m a d)
+
+all-bits : (k m a d : ℕ) → m < 2 ^ k → eqb (bitAnd a m) (bitAnd d m) ≡ sameWhere k m a d
+all-bits k m a d h =
+    let below : (x : ℕ) → bitAnd x m < 2 ^ k = λ x. omega (arith, and-le-r x m) in
+    ap₂ eqb (sym (mod-eq-of-lt (below a))) (sym (mod-eq-of-lt (below d))) ∙ low-bits k m a d
+
+-- ---- whom a descriptor covers
+six : (a : ℕ) (t : List ℕ) → a < 2 ^ 48 → numberAt 6 (bytesOf 6 a ++ t) 0 ≡ a
+six a t h = numberAt-bytesOf 6 a [] t ∙ mod-eq-of-lt h
+
+six-alone : (a : ℕ) → a < 2 ^ 48 → numberAt 6 (bytesOf 6 a) 0 ≡ a
+six-alone a h = ap (λ (l : List ℕ). numberAt 6 l 0) (sym (append-nil (bytesOf 6 a))) ∙ six a [] h
+
+six-second : (a b : ℕ) → b < 2 ^ 48 → numberAt 6 (bytesOf 6 a ++ bytesOf 6 b) 6 ≡ b
+six-second a b h =
+    ap₂ (λ (l : List ℕ) (i : ℕ). numberAt 6 (bytesOf 6 a ++ l) i) (sym (append-nil (bytesOf 6 b))) (sym (length-bytesOf 6 a))
+    ∙ numberAt-bytesOf 6 b (bytesOf 6 a) [] ∙ mod-eq-of-lt h
+
+device-is : (device : Address) → addressNumber device ≡ deviceNumber device
+unfolding addressNumber numberAt
+device-is device = omega arith
+
+-- a test of what was written, and the same of what was meant
+any-one : {A : Type 0} (write : A → List ℕ) (f : List ℕ → Bool) (g : A → Bool) (xs : List A)
+    → ((x : A) → List·Memᴰ x xs → f (write x) ≡ g x) → any f (map write xs) ≡ one g xs
+unfolding any one pick
+any-one write f g [] h = refl
+any-one write f g (x ∷ xs) h =
+    go (g x) (h x (List·Memᴰ·head refl)) (any-one write f g xs (λ y m. h y (List·Memᴰ·tail m)))
+  where
+    go : (b : Bool) → f (write x) ≡ b → any f (map write xs) ≡ one g xs → pick (f (write x)) true (any f (map write xs)) ≡ (b || one g xs)
+    go true e ih = rw e
+    go false e ih = rw e ih
+
+all-long : {A : Type 0} (write : A → List ℕ) (n : ℕ) → ((x : A) → length (write x) ≡ n) → (xs : List A) (e : List ℕ)
+    → List·Memᴰ e (map write xs) → length e ≡ n
+all-long write n h [] e m = absurd (List·Memᴰ·not-nil m)
+all-long write n h (x ∷ xs) e m = go (all-long write n h xs e) (List·Memᴰ·cases-cons m)
+  where
+    go : (List·Memᴰ e (map write xs) → length e ≡ n) → (e ≡ write x) ⊎ List·Memᴰ e (map write xs) → length e ≡ n
+    go ih (inl q) = ap (λ (l : List ℕ). length l) q ∙ h x
+    go ih (inr k) = ih k
+
+covers-is : (device : Address) (d : Descriptor) → Held d → covers device (descriptorWritten d) ≡ targets (deviceNumber device) d
+unfolding targets bodyWritten sameUnder inRange both
+covers-is device (masked mask xs) h =
+    masks-cover device (bytesOf 6 mask) (map (bytesOf 6) xs) (length-bytesOf 6 mask) (all-long (bytesOf 6) 6 (length-bytesOf 6) xs)
+    ∙ any-one (bytesOf 6) (sameUnder device (bytesOf 6 mask)) (λ a. sameWhere 48 mask a (deviceNumber device)) xs
+    (λ a m. rw (six-alone a (h .1 a m), six-alone mask (h .0), device-is device) (all-bits 48 mask a (deviceNumber device) (h .0)))
+covers-is device (ranges rs) h =
+    ranges-cover device (map rangeWritten rs) (all-long rangeWritten 12 range-length rs)
+    ∙ any-one rangeWritten (inRange device) (λ r. leb (r .0) (deviceNumber device) && leb (deviceNumber device) (r .1)) rs
+    (λ r m. rw (six (r .0) (bytesOf 6 (r .1)) (h r m .0), six-second (r .0) (r .1) (h r m .1), device-is device))
+covers-is device (location b) h = other-covers device (descriptorWritten (location b)) (λ e. omega arith) (λ e. omega arith)
+covers-is device (other t b) h = other-covers device (descriptorWritten (other t b)) (h .1 .0) (h .1 .1)
+
+-- ---- a loop that was written
+list-cover : (device : Address) (o : ℕ) (ds : List Descriptor) → ((d : Descriptor) → List·Memᴰ d ds → Fits d)
+    → isCover (pick (isNil (contentWritten ds)) (by 0) (coverFrom device (placed o (map descriptorWritten ds)))) ≡ covered (deviceNumber device) ds
+unfolding flatten pick isCover covered
+list-cover device o [] h = refl
+list-cover device o (d ∷ ds) h =
+    covered-any device o (map descriptorWritten (d ∷ ds))
+    ∙ any-one descriptorWritten (covers device) (targets (deviceNumber device)) (d ∷ ds) (λ e m. covers-is device e (h e m .held))
+
+module _ (l : Loop) (f : FitsLoop l) where
+  pieces-are : (o : ℕ) → descriptorsOf (part o (loopWritten l)) ≡ placed (o + 2) (map descriptorWritten (l .descriptors))
+  unfolding descriptorsOf
+  pieces-are o =
+      ap (λ (b : List ℕ). placed (o + 2) (descriptorPieces b)) (loop-content l)
+      ∙ ap (λ (c : Cut). placed (o + 2) (c .pieces)) (descriptors-cut (l .descriptors))
+
+  cover-is : (device : Address) (o : ℕ) → isCover (coverOf device (part o (loopWritten l))) ≡ covered (deviceNumber device) (l .descriptors)
+  unfolding coverOf
+  cover-is device o =
+      ap₂ (λ (b : List ℕ) (ds : List Part). isCover (pick (isNil b) (by 0) (coverFrom device ds))) (loop-content l) (pieces-are o)
+      ∙ list-cover device (o + 2) (l .descriptors) (f .descriptors)
+
+placeOf : Location → Option ℕ
+placeOf nowhere = none
+placeOf (at d) = some (d .place + 2)
+
+tag-is : (d : Descriptor) → Held d → eqb (tagOf d) streamLocation ≡ isLocation d
+tag-is (masked mask xs) h = refl
+tag-is (ranges rs) h = refl
+tag-is (location b) h = refl
+tag-is (other t b) h = ne-eqb t streamLocation (h .1 .2)
+
+nine-is : (o : ℕ) (ds : List Descriptor) → ((d : Descriptor) → List·Memᴰ d ds → Fits d)
+    → placeOf (located (placed o (map descriptorWritten ds))) ≡ nineBytes o ds
+unfolding located placed nineBytes pick placeOf
+nine-is o [] h = refl
+nine-is o (d ∷ ds) h =
+    rw (tag-is d (h d (List·Memᴰ·head refl) .held))
+    (go (isLocation d) (nine-is (o + length (descriptorWritten d)) ds (λ e m. h e (List·Memᴰ·tail m))))
+  where
+    go : (b : Bool) → placeOf (located (placed (o + length (descriptorWritten d)) (map descriptorWritten ds))) ≡ nineBytes (o + length (descriptorWritten d)) ds
+        → placeOf (pick b (at (part o (descriptorWritten d))) (located (placed (o + length (descriptorWritten d)) (map descriptorWritten ds))))
+        ≡ cond b (some (o + 2)) (nineBytes (o + length (descriptorWritten d)) ds)
+    go true ih = refl
+    go false ih = ih
+
+located-is : (l : Loop) → FitsLoop l → (o : ℕ) → placeOf (located (descriptorsOf (part o (loopWritten l)))) ≡ nineBytes (o + 2) (l .descriptors)
+located-is l f o = ap (λ (ds : List Part). placeOf (located ds)) (pieces-are l f o) ∙ nine-is (o + 2) (l .descriptors) (f .descriptors)
+
+else-is : (a b : Location) → placeOf (target.orElse a b) ≡ orElse (placeOf a) (placeOf b)
+unfolding target.orElse orElse placeOf
+else-is nowhere b = refl
+else-is (at d) b = refl
+
+-- ---- the search
+tell-is : (platform : Part) (c : Bool) (x : Pair) (l : Location) → locationOf platform x ≡ l → (later : Choice)
+    → chosen platform (pick (both c (target.isLocation l)) (target.one x) later) ≡ tell c (placeOf l) (chosen platform later)
+unfolding chosen pick both target.isLocation tell found placeOf
+tell-is platform true x nowhere e later = refl
+tell-is platform true x (at d) e later = ap found e
+tell-is platform false x nowhere e later = refl
+tell-is platform false x (at d) e later = refl
+
+search-is : (device : Address) (platform : Loop) → FitsLoop platform → (o : ℕ) (ps : List (Loop × Loop))
+    → ((p : Loop × Loop) → List·Memᴰ p ps → FitsLoop (p .0) × FitsLoop (p .1))
+    → chosen (part 12 (loopWritten platform)) (firstPair (answers device (part 12 (loopWritten platform))) (pairsOf (placed o (map loopWritten (byTurns ps)))))
+    ≡ answerFrom (deviceNumber device) (nineBytes 14 (platform .descriptors)) o ps
+unfolding byTurns placed pairsOf firstPair answerFrom chosen answers locationOf
+search-is device platform f o [] h = refl
+search-is device platform f o (p ∷ ps) h =
+    let here : Part = part 12 (loopWritten platform) in
+    let t : ℕ = length (loopWritten (p .0)) in
+    let x : Pair = record { target = part o (loopWritten (p .0)); operational = part (o + t) (loopWritten (p .1)) } in
+    let fits = h p (List·Memᴰ·head refl) in
+    let e : o + t + length (loopWritten (p .1)) ≡ o + length (pairWritten p) =
+    omega (arith, length-append (loopWritten (p .0)) (loopWritten (p .1))) in
+    let place : placeOf (locationOf here x) ≡ orElse (nineBytes (o + t + 2) (p .1 .descriptors)) (nineBytes 14 (platform .descriptors)) =
+    else-is (located (descriptorsOf (x .operational))) (located (descriptorsOf here))
+    ∙ ap₂ orElse (located-is (p .1) (fits .1) (o + t)) (located-is platform f 12) in
+    let later : Choice = firstPair (answers device here) (pairsOf (placed (o + t + length (loopWritten (p .1))) (map loopWritten (byTurns ps)))) in
+    tell-is here (isCover (coverOf device (x .target))) x (locationOf here x) refl later
+    ∙ ap (λ (c : Bool). tell c (placeOf (locationOf here x)) (chosen here later)) (cover-is (p .0) (fits .0) device o)
+    ∙ ap₂ (λ (l : Option ℕ) (r : Notice). tell (covered (deviceNumber device) (p .0 .descriptors)) l r) place
+    (ap (λ (k : ℕ). chosen here (firstPair (answers device here) (pairsOf (placed k (map loopWritten (byTurns ps)))))) e
+    ∙ search-is device platform f (o + length (pairWritten p)) ps (λ q m. h q (List·Memᴰ·tail m)))
+
+pub written-is-found : WrittenIsFound
+unfolding answerTo loopsOf placed searched
+written-is-found device n t =
+    unrefused device (notificationWritten n) (written-is-taken n t)
+    ∙ ap (λ (c : Cut). searched device (placed 12 (c .pieces))) (loops-cut n t)
+    ∙ search-is device (n .platform) (t .platform) (12 + length (loopWritten (n .platform))) (n .pairs) (t .pairs)

@@ -1,0 +1,280 @@
+-- Each line of a table tests what its row means, so the first line that applies has the number of the first row that does.
+use Prim.Native.Nat.{ℕ, zero, suc, _+_, _*_, _-_, _/_, _≤_, _<_, min}
+use native.Mathlib.Nat.{div-mul-le-self, mul-le-mul-right, suc-mul}
+use native.Mathlib.Decide.{decLe}
+use native.Mathlib.Omega.{arith}
+use mathlib.Core.Path.{_≡_, refl, sym, ap, subst, _∙_}
+use mathlib.Core.Logic.{_≢_, _⊎_}
+use mathlib.Core.List.{List, [], _∷_, _++_, flatten}
+use mathlib.Core.Bool.{Bool, true, false, not, Bool·beq}
+use lib.ListN.{length, take}
+use lib.Dec.{eqb, leb, ltb}
+use borrow.Author.Tests.{eqb-false, eqb-true, leb-false, leb-true, lt-leb, ltb-false, not-false, not-true}
+use Rattle.wire.specs.Bytes.{bit, bits, byteAt, numberAt}
+use Rattle.wire.specs.Choice.{pick, both, either, Line, line, first, firstOf, without}
+use Rattle.wire.specs.Meaning.{Outside, Row, _means_}
+use Rattle.wire.proofs.Choice.{both-true, never, not-first}
+use Rattle.wire.proofs.Meaning.{Gives, gives-last, gives-row, or-else, or-zero, orElse, Tells, tells-both, tells-either, tells-eq, tells-le, tells-lt, tells-not, tells-outside}
+use Rattle.rules.specs.declared.Answer.the-variants.{PassedBy}
+use Rattle.rules.specs.declared.Form.{Form}
+use Rattle.rules.specs.declared.Key.{Key}
+use Rattle.rules.specs.declared.Settings.{Settings}
+use Rattle.rules.specs.declared.State.{State}
+use Rattle.rules.specs.declared.State.the-variants.{Idle, Open}
+use Rattle.rules.specs.Check.{addressScrambled, check, checkLines, datagramForm, fault, faultLines, formLines, notCurrent, orderLines, otherTable, outOfOrder, tooShort, wrongCrc, wrongLength, wrongSyntax}
+use Rattle.rules.specs.Crc.{crc32}
+use Rattle.rules.specs.Meaning.{CheckMeans, CutInto, filledBefore, GoesOn, GoodState, ReceiverMeans, SameAddress, sectionRows, SenderMeans}
+use Rattle.rules.specs.Section.{address, addressScramblingControl, crcField, currentNextIndicator, lastSectionNumber, llcSnapFlag, payload, payloadScramblingControl, privateIndicator, sectionLength, sectionNumber, sectionSyntaxIndicator, tableId}
+use Rattle.rules.specs.Step.{barLines, continues, From, goodRun, goodSettings, goodState, keep, keyOf, lay, Nowhere, numberOf, onward, ours, Outcome, outcome, overLimit, payloadScrambled, place, refuse, refuseFirst, room, sameKey, stepOf, finish}
+use Rattle.rules.proofs.Compared.{compares-last}
+use Rattle.rules.specs.Send.{sectionCount, sections, sendingNumber, sendLines, SendOutcome, sentOf, written}
+use Rattle.rules.proofs.Send.{count-covers, count-some, sections-bytes}
+use Rattle.rules.proofs.Sound.{payload-length}
+
+-- ---- 12 to 18, for any table
+abbrev pub faultRows : Form → Type 0 → List ℕ → List Row → List Row
+faultRows f p15 s rest =
+    12 means (length s < f .fewest)
+    ∷ 13 means (byteAt s 0 ≢ f .table)
+    ∷ 14 means ((4093 < sectionLength s) ⊎ (sectionLength s + 3 ≢ length s))
+    ∷ 15 means p15
+    ∷ 16 means (numberAt 4 s (length s - 4) ≢ crc32 (take (length s - 4) s))
+    ∷ 17 means (bit 0 (byteAt s 5) ≡ 0)
+    ∷ 18 means (byteAt s 7 < byteAt s 6)
+    ∷ rest
+
+pub gives-fault : (f : Form) (s : List ℕ) (p15 : Type 0) (m : ℕ) (rest : List Row) → Tells (wrongSyntax f s) p15
+    → (fault f s ≡ 0 → f .fewest ≤ length s → Gives m rest) → Gives (orElse (faultLines f s) m) (faultRows f p15 s rest)
+unfolding orElse fault faultLines formLines orderLines firstOf tooShort otherTable wrongLength wrongCrc notCurrent outOfOrder tableId crcField currentNextIndicator sectionNumber lastSectionNumber
+gives-fault f s p15 m rest h15 g =
+    gives-row _ 12 (tells-lt (length s) (f .fewest)) (λ e12.
+    gives-row _ 13 (tells-not _ (tells-eq (byteAt s 0) (f .table))) (λ e13.
+    gives-row _ 14 (tells-either _ _ (tells-lt 4093 (sectionLength s)) (tells-not _ (tells-eq (sectionLength s + 3) (length s)))) (λ e14.
+    gives-row _ 15 h15 (λ e15.
+    gives-row _ 16 (tells-not _ (tells-eq (numberAt 4 s (length s - 4)) (crc32 (take (length s - 4) s)))) (λ e16.
+    gives-row _ 17 (tells-eq (bit 0 (byteAt s 5)) 0) (λ e17.
+    gives-row _ 18 (tells-lt (byteAt s 7) (byteAt s 6)) (λ e18.
+    g (sym (not-first 12 _ e12 (not-first 13 _ e13 (not-first 14 _ e14 (not-first 15 _ e15 (not-first 16 _ e16 (not-first 17 _ e17 (not-first 18 _ e18 refl))))))))
+    (ltb-false _ _ e12))))))))
+
+-- ---- the datagram section: 12 to 19
+gives-check : (s : List ℕ) (m : ℕ) (rest : List Row) → (16 ≤ length s → Gives m rest)
+    → Gives (orElse (checkLines s) m) (sectionRows s ++ rest)
+unfolding orElse checkLines faultLines formLines orderLines wrongSyntax sectionSyntaxIndicator privateIndicator both addressScrambled addressScramblingControl
+gives-check s m rest g =
+    gives-fault datagramForm s _ (first (addressScrambled s) 19 m) _
+    (tells-either _ _ (tells-not _ (tells-eq (bit 7 (byteAt s 1)) 1)) (tells-not _ (tells-eq (bit 6 (byteAt s 1)) 0)))
+    (λ _ l. gives-row _ 19 (tells-not _ (tells-eq (bits 3 2 (byteAt s 5)) 0)) (λ _. g l))
+
+pub check-means : CheckMeans
+unfolding check
+check-means s n = rw (or-zero (checkLines s)) (gives-check s 0 _ (λ _. gives-last 0 tt) .exactly n)
+
+-- ---- settings, states, addresses
+tells-nor : {p q : Type 0} (t u : Bool) → Tells (not t) p → Tells (not u) q → Tells (not (both t u)) (p ⊎ q)
+unfolding both either
+tells-nor true u h k = tells-either false (not u) h k
+tells-nor false u h k = tells-either true (not u) h k
+
+settings-tell : (c : Settings) → Tells (not (goodSettings c)) (Outside 1 6 (c .range) ⊎ Outside 1 255 (c .limit))
+unfolding goodSettings
+settings-tell c = tells-nor _ _ (tells-outside 1 6 (c .range)) (tells-outside 1 255 (c .limit))
+
+state-tells : (σ : State) → Tells (goodState σ) (GoodState σ)
+unfolding goodState GoodState goodRun
+state-tells Idle = (λ _. tt, λ _. refl)
+state-tells (Open e f κ) =
+    let t = tells-both _ _ (tells-both _ _ (tells-le 1 e) (tells-both _ _ (tells-le e (κ .last)) (tells-le (κ .last) 254))) (tells-both _ _ (tells-le f 65535) (tells-le f (4080 * e))) in
+    (λ p. let w = t .0 p in (w .0 .0, w .0 .1 .0, w .0 .1 .1, w .1 .0, w .1 .1), λ w. t .1 ((w .0, (w .1, w .2)), (w .3, w .4)))
+
+own-tells : (c : Settings) (s : List ℕ) → Tells (ours c s) (SameAddress c s)
+unfolding ours address
+own-tells c s = compares-last (c .range) (c .address) (address s)
+
+-- ---- a run that goes on
+flag-tells : (x : ℕ) (t : Bool) → x < 2 → Tells (Bool·beq (eqb x 1) t) (x ≡ pick t 1 0)
+unfolding pick
+flag-tells x t h = go (eqb x 1) refl t
+  where
+    go : (r : Bool) → eqb x 1 ≡ r → (t : Bool) → Tells (Bool·beq r t) (x ≡ pick t 1 0)
+    go true e true = (λ _. eqb-true x 1 e, λ _. refl)
+    go true e false = (λ z. absurd (never z), λ q. let one : x ≡ 1 = eqb-true x 1 e in absurd (omega arith))
+    go false e true = (λ z. absurd (never z), λ q. absurd (eqb-false x 1 e q))
+    go false e false = let other : x ≡ 1 → ⊥ = eqb-false x 1 e in (λ _. omega arith, λ _. refl)
+
+continues-tells : (e f : ℕ) (κ : Key) (s : List ℕ) → Tells (continues e κ s) (GoesOn (Open e f κ) s)
+unfolding continues sameKey keyOf GoesOn sectionNumber lastSectionNumber llcSnapFlag
+continues-tells e f κ s =
+    let t = tells-both _ _ (tells-eq (byteAt s 6) e) (tells-both _ _ (tells-eq (byteAt s 7) (κ .last)) (flag-tells (bit 1 (byteAt s 5)) (κ .flag) (omega arith))) in
+    (λ p. let w = t .0 p in (w .0, w .1 .0, w .1 .1), λ w. t .1 (w .0, (w .1, w .2)))
+
+-- ---- the number of an outcome
+abbrev number : Outcome → ℕ
+number o = numberOf (o .step .answer)
+
+number-pick : (t : Bool) (o r : Outcome) → number (pick t o r) ≡ pick t (number o) (number r)
+unfolding pick
+number-pick true o r = refl
+number-pick false o r = refl
+
+number-refused : (lines : List Line) (b : List ℕ) (o : Outcome) → without 0 lines ≡ true → number (refuseFirst lines b o) ≡ orElse lines (number o)
+unfolding refuseFirst numberOf
+number-refused lines b o h = number-pick (eqb (firstOf lines) 0) o (refuse (firstOf lines) b) ∙ or-else lines (number o) h
+
+pick-first : (t : Bool) (k m : ℕ) → pick t m k ≡ first (not t) k m
+unfolding pick first
+pick-first true k m = refl
+pick-first false k m = refl
+
+tells-over : (x r : ℕ) → Tells (not (leb x r)) (r < x)
+tells-over x r = (λ p. leb-false x r (not-true _ p), λ h. ap not (lt-leb x r h))
+
+filled-zero : (σ : State) (i : ℕ) → i ≡ 0 → filledBefore σ i ≡ 0
+unfolding filledBefore
+filled-zero σ i e = rw e
+
+filled-open : (e f : ℕ) (κ : Key) (i : ℕ) → i ≢ 0 → filledBefore (Open e f κ) i ≡ f
+unfolding filledBefore
+filled-open e f κ zero h = absurd (h refl)
+filled-open e f κ (suc i) h = refl
+
+check-numbered : (s : List ℕ) → without 0 (checkLines s) ≡ true
+unfolding without both checkLines faultLines formLines orderLines
+check-numbered s = refl
+
+module _ (s b : List ℕ) where
+  abbrev row22 : State → Row
+  row22 σ = 22 means ((byteAt s 6 ≢ 0) × (¬ GoesOn σ s))
+
+  abbrev rows23 : State → List Row
+  rows23 σ =
+      23 means (min 65535 (length b) < filledBefore σ (byteAt s 6) + (length s - 16))
+      ∷ 1 means (byteAt s 6 ≢ byteAt s 7)
+      ∷ 0 means (byteAt s 6 ≡ byteAt s 7)
+      ∷ []
+
+  number-kept : (f : ℕ) → number (keep f s b) ≡ first (not (eqb (byteAt s 6) (byteAt s 7))) 1 0
+  unfolding keep finish numberOf sectionNumber lastSectionNumber
+  number-kept f = number-pick (eqb (byteAt s 6) (byteAt s 7)) _ _ ∙ pick-first (eqb (byteAt s 6) (byteAt s 7)) 1 0
+
+  number-laid : (f : ℕ) → number (lay (From f) s b) ≡ first (not (leb (f + length (payload s)) (min 65535 (length b)))) 23 (number (keep f s b))
+  unfolding lay numberOf room
+  number-laid f = number-pick (leb (f + length (payload s)) (min 65535 (length b))) _ _ ∙ pick-first (leb (f + length (payload s)) (min 65535 (length b))) 23 (number (keep f s b))
+
+  gives-laid : (σ : State) (f : ℕ) → filledBefore σ (byteAt s 6) ≡ f → 16 ≤ length s → Gives (number (lay (From f) s b)) (rows23 σ)
+  gives-laid σ f e l =
+      rw (number-laid f, number-kept f, payload-length s l, e)
+      (gives-row _ 23 (tells-over (f + (length s - 16)) (min 65535 (length b))) (λ _.
+      gives-row _ 1 (tells-not _ (tells-eq (byteAt s 6) (byteAt s 7))) (λ z.
+      gives-last 0 (eqb-true _ _ (not-false _ z)))))
+
+  stopped : (σ : State) → byteAt s 6 ≢ 0 → (¬ GoesOn σ s) → Gives 22 (row22 σ ∷ rows23 σ)
+  unfolding first
+  stopped σ e h = gives-row {m = 0} true 22 (λ _. (e, h), λ _. refl) (λ z. absurd (never (sym z)))
+
+  gives-onward : (σ : State) → byteAt s 6 ≢ 0 → 16 ≤ length s → Gives (number (lay (onward σ s) s b)) (row22 σ ∷ rows23 σ)
+  unfolding onward lay pick numberOf first GoesOn
+  gives-onward Idle e l = stopped Idle e (λ w. w)
+  gives-onward (Open n f κ) e l = go (continues n κ s) (continues-tells n f κ s)
+    where
+      go : (t : Bool) → Tells t (GoesOn (Open n f κ) s) → Gives (number (lay (pick t (From f) Nowhere) s b)) (row22 (Open n f κ) ∷ rows23 (Open n f κ))
+      go true h =
+          gives-row false 22 (λ z. absurd (never z), λ w. absurd (w .1 (h .0 refl))) (λ _. gives-laid (Open n f κ) f (filled-open n f κ (byteAt s 6) e) l)
+      go false h = stopped (Open n f κ) e (λ w. never (h .1 w))
+
+  gives-placed : (σ : State) → 16 ≤ length s → Gives (number (lay (place σ s) s b)) (row22 σ ∷ rows23 σ)
+  unfolding place sectionNumber pick first
+  gives-placed σ l = go (eqb (byteAt s 6) 0) refl
+    where
+      go : (t : Bool) → eqb (byteAt s 6) 0 ≡ t → Gives (number (lay (pick t (From 0) (onward σ s)) s b)) (row22 σ ∷ rows23 σ)
+      go true e =
+          let zero : byteAt s 6 ≡ 0 = eqb-true _ _ e in
+          gives-row false 22 (λ z. absurd (never z), λ w. absurd (w .0 zero)) (λ _. gives-laid σ 0 (filled-zero σ (byteAt s 6) zero) l)
+      go false e = gives-onward σ (eqb-false _ _ e) l
+
+module _ (c : Settings) (σ : State) (s b : List ℕ) where
+  abbrev given : List Line
+  given = line 10 (not (goodSettings c)) ∷ line 11 (not (goodState σ)) ∷ []
+
+  abbrev laidOut : Outcome
+  laidOut = lay (place σ s) s b
+
+  number-ours : number (pick (ours c s) (refuseFirst (barLines c s) b laidOut) (outcome PassedBy σ b))
+      ≡ first (not (ours c s)) 2 (orElse (barLines c s) (number laidOut))
+  unfolding numberOf without barLines both
+  number-ours =
+      number-pick (ours c s) (refuseFirst (barLines c s) b laidOut) (outcome PassedBy σ b)
+      ∙ ap (λ (m : ℕ). pick (ours c s) m 2) (number-refused (barLines c s) b laidOut refl)
+      ∙ pick-first (ours c s) 2 _
+
+  number-step : number (stepOf c σ s b) ≡ orElse given (orElse (checkLines s) (first (not (ours c s)) 2 (orElse (barLines c s) (number laidOut))))
+  unfolding stepOf without both
+  number-step =
+      number-refused given b _ refl
+      ∙ ap (orElse given) (number-refused (checkLines s) b _ (check-numbered s) ∙ ap (orElse (checkLines s)) number-ours)
+
+pub receiver-means : ReceiverMeans
+unfolding orElse barLines payloadScrambled overLimit payloadScramblingControl lastSectionNumber
+receiver-means c σ s b n =
+    rw (number-step c σ s b)
+    (gives-row _ 10 (settings-tell c) (λ _.
+    gives-row _ 11 (tells-not _ (state-tells σ)) (λ _.
+    gives-check s _ _ (λ l.
+    gives-row _ 2 (tells-not _ (own-tells c s)) (λ _.
+    gives-row _ 20 (tells-not _ (tells-eq (bits 5 4 (byteAt s 5)) 0)) (λ _.
+    gives-row _ 21 (tells-lt (c .limit) (byteAt s 7 + 1)) (λ _. gives-placed s b σ l)))))) .exactly n)
+
+-- ---- the sender
+module _ (n : ℕ) (u : List ℕ) (some : 0 < n) where
+  -- fewer sections do not hold the unit
+  fewest : (j : ℕ) → 1 ≤ j → length u ≤ j * n → sectionCount n u ≤ j
+  unfolding sectionCount
+  fewest j h l = go (decLe (sectionCount n u) j)
+    where
+      go : Dec (sectionCount n u ≤ j) → sectionCount n u ≤ j
+      go (yes m) = m
+      go (no m) =
+          let q : ℕ = (length u + (n - 1)) / n in
+          let within : q * n ≤ length u + (n - 1) = div-mul-le-self _ n in
+          let next : suc j ≤ q = omega arith in
+          let more : suc j * n ≤ q * n = mul-le-mul-right n next in
+          let step : suc j * n ≡ j * n + n = suc-mul j n in
+          absurd (omega arith)
+
+  cut : CutInto n u (sectionCount n u)
+  cut = record { some = count-some n u; holds = count-covers n u some; fewest = fewest }
+
+  one-cut : (k : ℕ) → CutInto n u k → k ≡ sectionCount n u
+  one-cut k w =
+      let down : k ≤ sectionCount n u = w .fewest (sectionCount n u) (cut .some) (cut .holds) in
+      let up : sectionCount n u ≤ k = fewest k (w .some) (w .holds) in
+      omega arith
+
+  -- what is tested of their number is so of the number that the unit is cut into
+  counted : (t : Bool) (P : ℕ → Type 0) → Tells t (P (sectionCount n u)) → Tells t ((k : ℕ) × CutInto n u k × P k)
+  counted t P h = (λ e. (sectionCount n u, cut, h .0 e), λ w. h .1 (subst P (one-cut (w .0) (w .1)) (w .2)))
+
+sending-pick : (t : Bool) (o r : SendOutcome) → sendingNumber (pick t o r .sending) ≡ pick t (sendingNumber (o .sending)) (sendingNumber (r .sending))
+unfolding pick
+sending-pick true o r = refl
+sending-pick false o r = refl
+
+number-sent : (c : Settings) (flag : Bool) (size : ℕ) (u out : List ℕ)
+    → sendingNumber (sentOf c flag size u out .sending) ≡ orElse (sendLines c flag size u out) 0
+unfolding sentOf sendingNumber written without both sendLines
+number-sent c flag size u out =
+    sending-pick (eqb (firstOf (sendLines c flag size u out)) 0) _ _ ∙ or-else (sendLines c flag size u out) 0 refl
+
+pub sender-means : SenderMeans
+unfolding orElse sendLines
+sender-means c flag size u out n =
+    rw (number-sent c flag size u out)
+    (gives-row _ 10 (settings-tell c) (λ _.
+    gives-row _ 50 (tells-outside 1 4080 size) (λ e50.
+    gives-row _ 51 (tells-lt 65535 (length u)) (λ _.
+    let some : 0 < size = leb-true 1 size (both-true _ _ (not-false _ e50) .0) in
+    gives-row _ 52 (counted size u some _ (λ k. c .limit < k) (tells-lt (c .limit) (sectionCount size u))) (λ _.
+    gives-row _ 53
+    (counted size u some (ltb (length out) (length (flatten (sections c flag size u)))) (λ k. length out < length u + 16 * k)
+    (rw (sections-bytes c flag size u some) (tells-lt (length out) (length u + 16 * sectionCount size u)))) (λ _.
+    gives-last 0 tt))))) .exactly n)

@@ -1,0 +1,106 @@
+-- What each number means, in document 01's order and words: 'The receiver', 'The sender'. By bytes, bits and lengths, with none of the
+-- receiver's own tests. Theorems, shown in proofs/Meaning.antt.
+use Prim.Native.Nat.{ℕ, zero, suc, _+_, _*_, _-_, _≤_, _<_, min}
+use mathlib.Core.Path.{_≡_}
+use mathlib.Core.Logic.{_↔_, _≢_, _⊎_}
+use mathlib.Core.List.{List, [], _∷_, _++_}
+use mathlib.Core.Bool.{Bool}
+use lib.ListN.{length, take}
+use Rattle.wire.specs.Bytes.{bit, bits, byteAt, numberAt}
+use Rattle.wire.specs.Choice.{pick}
+use Rattle.wire.specs.Meaning.{FirstThat, otherwise, Outside, Row, _means_}
+use Rattle.rules.specs.declared.Settings.{Settings}
+use Rattle.rules.specs.declared.State.{State}
+use Rattle.rules.specs.declared.State.the-variants.{Idle, Open}
+use Rattle.rules.specs.Address.{addressBytes}
+use Rattle.rules.specs.Check.{check}
+use Rattle.rules.specs.Crc.{crc32}
+use Rattle.rules.specs.Section.{sectionLength}
+use Rattle.rules.specs.Send.{sendingNumber, sentOf}
+use Rattle.rules.specs.Step.{numberOf, stepOf}
+
+-- ---- the datagram section: table_id, section_length, section_syntax_indicator and private_indicator, CRC_32, current_next_indicator,
+-- section_number and last_section_number, address scrambling
+abbrev pub sectionRows : List ℕ → List Row
+sectionRows s =
+    12 means (length s < 16)
+    ∷ 13 means (byteAt s 0 ≢ 0x3E)
+    ∷ 14 means ((4093 < sectionLength s) ⊎ (sectionLength s + 3 ≢ length s))
+    ∷ 15 means ((bit 7 (byteAt s 1) ≢ 1) ⊎ (bit 6 (byteAt s 1) ≢ 0))
+    ∷ 16 means (numberAt 4 s (length s - 4) ≢ crc32 (take (length s - 4) s))
+    ∷ 17 means (bit 0 (byteAt s 5) ≡ 0)
+    ∷ 18 means (byteAt s 7 < byteAt s 6)
+    ∷ 19 means (bits 3 2 (byteAt s 5) ≢ 0)
+    ∷ []
+
+abbrev pub checkRows : List ℕ → List Row
+checkRows s = sectionRows s ++ (0 means otherwise ∷ [])
+
+abbrev pub CheckMeans : Type 0
+CheckMeans = (s : List ℕ) (n : ℕ) → (check s ≡ n) ↔ FirstThat n (checkRows s)
+
+-- ---- the receiver
+-- 1 ≤ e ≤ L ≤ 254, f ≤ 65,535 and f ≤ 4,080 e
+unfoldable pub GoodState : State → Type 0
+GoodState Idle = Unit
+GoodState (Open e f κ) = (1 ≤ e) × (e ≤ κ .last) × (κ .last ≤ 254) × (f ≤ 65535) × (f ≤ 4080 * e)
+
+-- MAC_address_1 to 6 of a section, as an address is printed
+abbrev pub printed : List ℕ → List ℕ
+printed s = byteAt s 11 ∷ byteAt s 10 ∷ byteAt s 9 ∷ byteAt s 8 ∷ byteAt s 4 ∷ byteAt s 3 ∷ []
+
+-- of the two addresses the last bytes are equal, as many as the range says
+abbrev pub SameAddress : Settings → List ℕ → Type 0
+SameAddress c s = (i : ℕ) → 6 - c .range ≤ i → byteAt (addressBytes (c .address)) i ≡ byteAt (printed s) i
+
+-- the number is e, the last number L, the LLC_SNAP_flag the run's
+unfoldable pub GoesOn : State → List ℕ → Type 0
+GoesOn Idle s = ⊥
+GoesOn (Open e f κ) s = (byteAt s 6 ≡ e) × (byteAt s 7 ≡ κ .last) × (bit 1 (byteAt s 5) ≡ pick (κ .flag) 1 0)
+
+-- f, and 0 for number 0
+unfoldable pub filledBefore : State → ℕ → ℕ
+filledBefore σ zero = 0
+filledBefore Idle (suc i) = 0
+filledBefore (Open e f κ) (suc i) = f
+
+abbrev pub receiverRows : Settings → State → List ℕ → List ℕ → List Row
+receiverRows c σ s b =
+    10 means (Outside 1 6 (c .range) ⊎ Outside 1 255 (c .limit))
+    ∷ 11 means (¬ GoodState σ)
+    ∷ (sectionRows s
+    ++ (2 means (¬ SameAddress c s)
+    ∷ 20 means (bits 5 4 (byteAt s 5) ≢ 0)
+    ∷ 21 means (c .limit < byteAt s 7 + 1)
+    ∷ 22 means ((byteAt s 6 ≢ 0) × (¬ GoesOn σ s))
+    ∷ 23 means (min 65535 (length b) < filledBefore σ (byteAt s 6) + (length s - 16))
+    ∷ 1 means (byteAt s 6 ≢ byteAt s 7)
+    ∷ 0 means (byteAt s 6 ≡ byteAt s 7)
+    ∷ []))
+
+abbrev pub ReceiverMeans : Type 0
+ReceiverMeans =
+    (c : Settings) (σ : State) (s b : List ℕ) (n : ℕ) → (numberOf (stepOf c σ s b .step .answer) ≡ n) ↔ FirstThat n (receiverRows c σ s b)
+
+-- ---- the sender
+-- the unit is cut into k sections: the fewest, but one at least, whose pieces hold it
+pub record CutInto (size : ℕ) (u : List ℕ) (k : ℕ) : Type 0 where
+  pub some : 1 ≤ k
+  pub holds : length u ≤ k * size
+  pub fewest : (j : ℕ) → 1 ≤ j → length u ≤ j * size → k ≤ j
+
+-- a section has its piece of the unit and 16 bytes more
+abbrev pub senderRows : Settings → ℕ → List ℕ → List ℕ → List Row
+senderRows c size u out =
+    10 means (Outside 1 6 (c .range) ⊎ Outside 1 255 (c .limit))
+    ∷ 50 means (Outside 1 4080 size)
+    ∷ 51 means (65535 < length u)
+    ∷ 52 means ((k : ℕ) × CutInto size u k × (c .limit < k))
+    ∷ 53 means ((k : ℕ) × CutInto size u k × (length out < length u + 16 * k))
+    ∷ 0 means otherwise
+    ∷ []
+
+abbrev pub SenderMeans : Type 0
+SenderMeans =
+    (c : Settings) (flag : Bool) (size : ℕ) (u out : List ℕ) (n : ℕ)
+    → (sendingNumber (sentOf c flag size u out .sending) ≡ n) ↔ FirstThat n (senderRows c size u out)
