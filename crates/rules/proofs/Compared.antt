@@ -3,13 +3,14 @@ use Prim.Native.Nat.{ℕ, zero, suc, _-_, _≤_, _<_}
 use native.Mathlib.Decide.{decLe}
 use native.Mathlib.Omega.{arith}
 use mathlib.Core.Path.{_≡_, refl}
+use mathlib.Core.Logic.{_↔_}
 use mathlib.Core.Bool.{true}
 use borrow.Author.Tests.{eq-eqb, eqb-true, le-ltb, lt-ltb}
 use Rattle.wire.specs.Bytes.{byteAt}
 use Rattle.wire.specs.Choice.{both, either}
 use Rattle.wire.proofs.Choice.{both-true}
 use Rattle.rules.specs.declared.Address.{Address}
-use Rattle.rules.specs.Address.{addressBytes, agree, ComparesLast, sameAddress}
+use Rattle.rules.specs.Address.{addressBytes, agree, LastEqual, sameAddress}
 
 agree-is : (k n x y : ℕ) → k ≤ n → agree k n x y ≡ true → x ≡ y
 unfolding agree either
@@ -35,7 +36,7 @@ module _ (n : ℕ) (a b : Address) where
   tested (suc (suc (suc (suc (suc zero))))) l g1 g2 g3 g4 g5 g6 = agree-is 1 n _ _ (omega arith) g1
   tested (suc (suc (suc (suc (suc (suc i)))))) l g1 g2 g3 g4 g5 g6 = refl
 
-  equal : sameAddress n a b ≡ true → (i : ℕ) → 6 - n ≤ i → byteAt (addressBytes a) i ≡ byteAt (addressBytes b) i
+  equal : sameAddress n a b ≡ true → LastEqual n (addressBytes a) (addressBytes b)
   unfolding sameAddress
   equal p i l =
       let t1 = both-true _ _ p in
@@ -45,7 +46,8 @@ module _ (n : ℕ) (a b : Address) where
       let t5 = both-true _ _ (t4 .1) in
       tested i l (t1 .0) (t2 .0) (t3 .0) (t4 .0) (t5 .0) (t5 .1)
 
-pub compares-last : ComparesLast
+-- a MAC_address_range of n compares the last n bytes of an address, as it is printed, and no other
+pub compares-last : (n : ℕ) (a b : Address) → (sameAddress n a b ≡ true) ↔ LastEqual n (addressBytes a) (addressBytes b)
 unfolding sameAddress both
 compares-last n a b = (
   equal n a b,

@@ -4,7 +4,7 @@ use native.Mathlib.Omega.{arith}
 use native.Mathlib.Numerals.{add-one}
 use mathlib.Core.Path.{_≡_, refl, ap, ap₂, sym, _∙_}
 use mathlib.Core.Bool.{Bool, true, false}
-use mathlib.Core.List.{List, [], _∷_, _++_, map}
+use mathlib.Core.List.{List, [], _∷_, _++_, flatten, map}
 use lib.ListN.{length, take, length-take}
 use lib.Dec.{ltb}
 use borrow.Author.Tests.{eq-eqb}
@@ -16,13 +16,13 @@ use Rattle.rules.specs.declared.Address.{Address}
 use Rattle.rules.specs.declared.Answer.the-variants.{Delivered, Stored}
 use Rattle.rules.specs.Address.{agree, sameAddress}
 use Rattle.rules.specs.Cut.{offers}
-use Rattle.rules.specs.Demand2.{Accepted, answerAt, Arrives, RoundTrip}
+use Rattle.rules.specs.Demand2.{answerAt, Arrives, RoundTrip}
 use Rattle.rules.specs.Demand3 as InWords
 use Rattle.rules.specs.Sound.{table3, Values}
-use Rattle.rules.specs.Row.{after, elsewhere, Event, fresh, Held, next, section}
+use Rattle.rules.specs.Row.{after, Event, fresh, Held, next, section}
 use Rattle.rules.proofs.Good.{good-is}
 use Rattle.rules.proofs.Written.{sent, sent-is, sent-limits}
-use Rattle.rules.proofs.Tested.{joined, Piece, Receivable}
+use Rattle.rules.proofs.Tested.{elsewhere, joined, Piece, Receivable}
 use Rattle.rules.specs.Section.{header, sealed, sectionLength, sectionOf}
 use Rattle.rules.specs.Send.{piece, sectionAt, sectionCount, sections, sectionsTo, sentOf}
 use Rattle.rules.specs.Step.{finish, keyOf, Outcome, ours, room, stepOf}
@@ -30,7 +30,8 @@ use Rattle.rules.proofs.Cut.{Framed, offers-sections}
 use Rattle.rules.proofs.Due.{Due, refused, finished, stored, due, due-holds, Holds, started}
 use Rattle.rules.proofs.Lists.{map-more}
 use Rattle.rules.proofs.Runs.{EndsIn, only}
-use Rattle.rules.proofs.Send.{count-some, Given, given, given-bytes, joined-to, piece-small}
+use Rattle.rules.proofs.Sections.{sections-are, sections-sent}
+use Rattle.rules.proofs.Send.{Accepted, count-some, Given, given, given-bytes, joined-to, piece-small}
 use Rattle.rules.proofs.Send.{section-size, section-written, sections-at, sections-joined, sections-length, sections-take}
 
 -- ---- each section is receivable
@@ -60,6 +61,11 @@ after-more : (c : Settings) (h : Held) (r : List Event) (e : Event) → after c 
 unfolding after
 after-more c h [] e = refl
 after-more c h (x ∷ r) e = after-more c (next c h x) r e
+
+-- a unit within the buffer is within the room
+room-enough : (b : List ℕ) (n : ℕ) → n ≤ 65535 → n ≤ length b → n ≤ room b
+unfolding room
+room-enough b n h k = omega arith
 
 module _ (c : Settings) (flag : Bool) (n : ℕ) (u out : List ℕ) (a : Accepted c flag n u out) where
   abbrev count : ℕ
@@ -218,17 +224,19 @@ module _ (c : Settings) (flag : Bool) (n : ℕ) (u out : List ℕ) (a : Accepted
         last k h = rw (← h, add-one k) (unit-at k h)
 
 pub round-trip : RoundTrip
-unfolding room sections
+unfolding sections
 round-trip c flag n u out m p =
     let g : Given c flag n u out m = given c flag n u out m p in
     let a = g .accepted in
     let xs : List (List ℕ) = sections c flag n u in
+    let bytes : take m (sentOf c flag n u out .output) ≡ flatten xs = given-bytes c flag n u out m g in
     let cut : offers (take m (sentOf c flag n u out .output)) ≡ xs =
-    ap offers (given-bytes c flag n u out m g)
+    ap offers bytes
     ∙ offers-sections xs (λ i h.
     let k : i < sectionCount n u = omega (arith, sections-length c flag n u (sectionCount n u)) in
     rw (sections-at c flag n u (sectionCount n u) i k) (framed c flag n u out a i k)) in
     record {
-      counted = rw cut (sections-length c flag n u (sectionCount n u));
-      arrives = λ b h. rw cut (arrives c flag n u out a b (omega (arith, a .unit)));
+      sections = sections-sent c flag n u (a .some) _ bytes;
+      offered = cut ∙ sym (sections-are c flag n u (a .some) _ bytes);
+      arrives = λ b h. rw cut (arrives c flag n u out a b (room-enough b (length u) (a .unit) h));
     }

@@ -2,7 +2,7 @@
 use Prim.Native.Nat.{ℕ, suc, zero, _<_}
 use native.Mathlib.Omega.{arith}
 use mathlib.Core.Path.{_≡_, refl, ap, sym, _∙_}
-use mathlib.Core.Logic.{_↔_}
+use mathlib.Core.Logic.{_↔_, _⊎_, inl, inr}
 use mathlib.Core.Bool.{Bool, true, false}
 use mathlib.Core.List.{List, [], _∷_, _++_, map}
 use lib.ListN.{drop, getD, length, length-append, length-map, List·getD-map, take}
@@ -17,8 +17,9 @@ use Rattle.rules.specs.Check.{check}
 use Rattle.rules.specs.Section.{address, lastSectionNumber, llcSnapFlag}
 use Rattle.rules.specs.Sound.{Limits, table3, Values}
 use Rattle.rules.specs.Step.{goodSettings, keyOf, ours, refuseFirst, room, stepOf}
-use Rattle.rules.specs.Row.{after, datagram, elsewhere, Event, fresh, gap, handedBy, handedOver, Held, nothing, section, strike}
-use Rattle.rules.specs.Demand3.{AtEvent, Demand3Holds, Elsewhere, Ends, Good, joined, OfBytes, Once, Own, Piece, Ready, Receivable, WholeRun}
+use Rattle.rules.specs.Row.{after, datagram, Event, fresh, gap, handedBy, handedOver, Held, nothing, section}
+use Rattle.rules.specs.Demand3.{CanBeStruck, Demand3Holds, Elsewhere, Ends, HandedRight, joined, OfBytes, Once, OnlyOne, Own, Piece, Ready, Receivable, Struck, WholeRun}
+use Rattle.rules.specs.Meaning.{Good}
 use Rattle.rules.proofs.Compared.{compares-last}
 use Rattle.rules.proofs.Due.{no-datagram}
 use Rattle.rules.proofs.Exactly.{read-back}
@@ -26,7 +27,9 @@ use Rattle.rules.proofs.Good.{good-is}
 use Rattle.rules.proofs.Read.{read, read-is, read-limits}
 use Rattle.rules.proofs.Written.{carried, clear-back, flagged-back, last-back, number-back, places, written-sound}
 use Rattle.rules.proofs.Row.{row-theorem}
+use Rattle.rules.proofs.Runs as runs
 use Rattle.rules.proofs.Tested as tested
+use Rattle.rules.proofs.Tested.{elsewhere, strike}
 use Rattle.rules.proofs.Track.{room-bounds}
 
 -- ---- the tests, in words
@@ -69,6 +72,54 @@ tells c (section s) b = (
       rw (same-section (w .is), written-sound (w .values) (w .limits), foreign),
 )
 tells c gap b = (λ p. absurd (never p), λ w. absurd (no-section (w .is)))
+
+-- ---- the struck row, in words
+of-front : (e : Event) (r : List Event) → OfBytes (e ∷ r) → Given e × OfBytes r
+unfolding OfBytes Given
+of-front (section s) r b = (b .0, b .1)
+of-front gap r b = (tt, b)
+
+struck-more : (c : Settings) (e : Event) (r t : List Event) → Given e → Struck c r t → Struck c (e ∷ r) (pick (elsewhere c e) t (e ∷ t))
+unfolding Struck pick
+struck-more c e r t b h = go (elsewhere c e) refl
+  where
+    go : (x : Bool) → elsewhere c e ≡ x
+        → (Elsewhere c e × Struck c r (pick x t (e ∷ t))) ⊎ ((¬ Elsewhere c e) × ((u : List Event) × (pick x t (e ∷ t) ≡ e ∷ u) × Struck c r u))
+    go true p = inl (tells c e b .0 p, h)
+    go false p = inr (λ w. never (sym p ∙ tells c e b .1 w), (t, refl, h))
+
+strike-is : (c : Settings) (r : List Event) → OfBytes r → Struck c r (strike c r)
+unfolding Struck strike
+strike-is c [] b = refl
+strike-is c (e ∷ r) b = let parts = of-front e r b in struck-more c e r (strike c r) (parts .0) (strike-is c r (parts .1))
+
+-- an event is struck or stays, never both, so a row is struck in one way
+struck-one : (c : Settings) (r t u : List Event) → Struck c r t → Struck c r u → t ≡ u
+unfolding Struck
+struck-one c [] t u h k = h ∙ sym k
+struck-one c (e ∷ r) t u (inl h) (inl k) = struck-one c r t u (h .1) (k .1)
+struck-one c (e ∷ r) t u (inl h) (inr k) = absurd (k .0 (h .0))
+struck-one c (e ∷ r) t u (inr h) (inl k) = absurd (h .0 (k .0))
+struck-one c (e ∷ r) t u (inr h) (inr k) =
+    h .1 .1 ∙ ap (λ (l : List Event). e ∷ l) (struck-one c r (h .1 .0) (k .1 .0) (h .1 .2) (k .1 .2)) ∙ sym (k .1 .1)
+
+-- a longer row, struck, begins with the shorter one, struck
+struck-split : (c : Settings) (r q t u : List Event) → Struck c r t → Struck c (r ++ q) u → (v : List Event) × (u ≡ t ++ v) × Struck c q v
+unfolding Struck
+struck-split c [] q t u h k = (u, rw h, k)
+struck-split c (e ∷ r) q t u (inl h) (inl k) = struck-split c r q t u (h .1) (k .1)
+struck-split c (e ∷ r) q t u (inl h) (inr k) = absurd (k .0 (h .0))
+struck-split c (e ∷ r) q t u (inr h) (inl k) = absurd (h .0 (k .0))
+struck-split c (e ∷ r) q t u (inr h) (inr k) =
+    let w = struck-split c r q (h .1 .0) (k .1 .0) (h .1 .2) (k .1 .2) in
+    (w .0, k .1 .1 ∙ ap (λ (l : List Event). e ∷ l) (w .1) ∙ ap (λ (l : List Event). l ++ w .0) (sym (h .1 .1)), w .2)
+
+struck-some : (c : Settings) (q t : List Event) (e : Event) → ¬ Elsewhere c e → Struck c (q ++ (e ∷ [])) t → 0 < length t
+unfolding Struck
+struck-some c [] t e n (inl h) = absurd (n (h .0))
+struck-some c [] t e n (inr h) = omega (arith, ap length (h .1 .1))
+struck-some c (x ∷ q) t e n (inl h) = struck-some c q t e n (h .1)
+struck-some c (x ∷ q) t e n (inr h) = omega (arith, ap length (h .1 .1))
 
 -- ---- one section of a run
 piece-read : (c : Settings) (κ : Key) (i : ℕ) (s : List ℕ) → Bytes s → tested.Piece c κ i s → Piece c (κ .last) (κ .flag) i (read s)
@@ -253,7 +304,7 @@ module _ (c : Settings) (b : List ℕ) where
   bad-hands bad h (section s) = rw bad
   bad-hands bad h gap = refl
 
-  kept : (e : Event) → Given e → (Elsewhere c e → ⊥) → elsewhere c e ≡ false
+  kept : (e : Event) → Given e → ¬ Elsewhere c e → elsewhere c e ≡ false
   kept e g h = not-so (elsewhere c e) (λ p. h (tells c e g .0 p))
 
   -- ---- the demand
@@ -262,40 +313,45 @@ module _ (c : Settings) (b : List ℕ) where
     row = strike c (r ++ (e ∷ []))
 
     struck : (t : Bool) → goodSettings c ≡ t → Elsewhere c e → handedOver c (after c (fresh b) r) e ≡ nothing
-    struck true good w = row-theorem c b good .each r e .struck (tells c e (of-last r e given) .1 w)
+    struck true good w = row-theorem c b good r e .struck (tells c e (of-last r e given) .1 w)
     struck false bad w = bad-hands bad _ e
 
-    exactly : (t : Bool) → goodSettings c ≡ t → (Elsewhere c e → ⊥) → (n : ℕ) (d : List ℕ)
+    exactly : (t : Bool) → goodSettings c ≡ t → ¬ Elsewhere c e → (n : ℕ) (d : List ℕ)
         → (handedOver c (after c (fresh b) r) e ≡ datagram n d) ↔ Ready c b row n d
     exactly true good h n d =
-        let hands = row-theorem c b good .each r e .exactly (kept e (of-last r e given) h) n d in
+        let hands = row-theorem c b good r e .exactly (kept e (of-last r e given) h) n d in
         let words = ready-is row n d (good-is c .0 good) (of-strike c (r ++ (e ∷ [])) given) in
         (λ p. words .0 (hands .0 p), λ w. hands .1 (words .1 w))
     exactly false bad h n d =
         (λ p. absurd (no-datagram (sym (bad-hands bad _ e) ∙ p)), λ w. absurd (never (sym bad ∙ good-is c .1 (w .run .good))))
 
-    only : (xs ys : List Values) → WholeRun c b xs → WholeRun c b ys → Ends row xs → Ends row ys → xs ≡ ys
-    only xs ys u v x y =
-        let same = row-theorem c b (good-is c .1 (u .good)) .each r e .only (map table3 xs) (map table3 ys) (run-written xs u) (run-written ys v)
-        (ends-written x) (ends-written y) in
-        sym (read-written xs (λ front back w p. u .each front back w p .receivable .limits)) ∙ ap (map read) same
-        ∙ read-written ys (λ front back w p. v .each front back w p .receivable .limits)
-
-    at-event : AtEvent c b r e
-    at-event =
+    handed-right : HandedRight c b r e (handedOver c (after c (fresh b) r) e)
+    handed-right =
         record {
-          tells = tells c e (of-last r e given);
           struck = struck (goodSettings c) refl;
-          exactly = exactly (goodSettings c) refl;
-          only = only;
+          exactly = λ h t s n u.
+              rw (struck-one c (r ++ (e ∷ [])) t row s (strike-is c (r ++ (e ∷ [])) given)) (exactly (goodSettings c) refl h n u);
         }
+
+  only-one : OnlyOne c b
+  only-one row xs ys u v x y =
+      let same = runs.only c b (runs.whole-ends c b (run-written xs u) (ends-written x)) (runs.whole-ends c b (run-written ys v) (ends-written y))
+      (omega (arith, u .whole, length-map xs table3)) (omega (arith, v .whole, length-map ys table3)) in
+      sym (read-written xs (λ front back w p. u .each front back w p .receivable .limits)) ∙ ap (map read) (same .sections)
+      ∙ read-written ys (λ front back w p. v .each front back w p .receivable .limits)
 
   at-once : Once c b
   unfolding ends-written
-  at-once r q e e′ given h xs ys u v x y =
-      let last : OfBytes (q ++ (e′ ∷ [])) = of-behind (r ++ (e ∷ [])) (q ++ (e′ ∷ [])) given in
-      row-theorem c b (good-is c .1 (u .good)) .once r q e e′ (kept e′ (of-last q e′ last) h) (map table3 xs) (map table3 ys)
-      (run-written xs u) (run-written ys v) (ends-written x) (ends-written y)
+  at-once r q e h t w s s′ xs ys u v x y =
+      let split = struck-split c r (q ++ (e ∷ [])) t w s s′ in
+      runs.apart c b t (split .0) (run-written xs u) (run-written ys v) (ends-written x)
+      (record { front = y .front; split = sym (split .1) ∙ ends-written y .split }) (struck-some c q (split .0) e h (split .2))
 
 pub demand-3 : Demand3Holds
-demand-3 c b = record { each = at-event c b; once = at-once c b }
+demand-3 c b =
+    record {
+      each = handed-right c b;
+      strikes = λ r given. (strike c r, strike-is c r given);
+      only = only-one c b;
+      once = at-once c b;
+    }

@@ -18,8 +18,8 @@ use Rattle.rules.specs.Section.{sectionNumber, payload}
 use Rattle.rules.specs.Check.{check}
 use Rattle.rules.specs.Step.{bar, finish, goodSettings, goodState, keep, keyOf, lay, Place, Nowhere, From, place, room}
 use Rattle.rules.specs.Step.{Outcome, ours, outcome, refuse, refuseFirst, stepOf}
-use Rattle.rules.specs.Row.{Event, section, Held, fresh, nothing, datagram, handedBy, elsewhere}
-use Rattle.rules.proofs.Tested.{joined}
+use Rattle.rules.specs.Row.{Event, section, Held, fresh, nothing, datagram, handedBy}
+use Rattle.rules.proofs.Tested.{elsewhere, joined}
 use Rattle.rules.proofs.Tested.{Receivable, WholeRun, Ready}
 use Rattle.rules.proofs.Sound.{no-bar, unbarred}
 use Rattle.rules.proofs.Runs.{EndsIn, ends-size, Next, next, Same, only, whole-ends}

@@ -6,7 +6,7 @@ use borrow.Author.Tests.{le-leb, leb-true}
 use Rattle.wire.specs.Choice.{both}
 use Rattle.wire.proofs.Choice.{both-true}
 use Rattle.rules.specs.declared.Settings.{Settings}
-use Rattle.rules.specs.Demand3.{Good}
+use Rattle.rules.specs.Meaning.{Good}
 use Rattle.rules.specs.Step.{goodSettings}
 
 pub good-is : (c : Settings) → (goodSettings c ≡ true) ↔ Good c

@@ -1,3 +1,4 @@
+pub mod After
 pub mod Check
 pub mod Compared
 pub mod Crc
@@ -15,6 +16,7 @@ pub mod Offer
 pub mod Read
 pub mod Row
 pub mod Runs
+pub mod Sections
 pub mod Send
 pub mod Sound
 pub mod Tested

@@ -1,7 +1,5 @@
 -- Each line of a table tests what its row means, so the first line that applies has the number of the first row that does.
-use Prim.Native.Nat.{ℕ, zero, suc, _+_, _*_, _-_, _/_, _≤_, _<_, min}
-use native.Mathlib.Nat.{div-mul-le-self, mul-le-mul-right, suc-mul}
-use native.Mathlib.Decide.{decLe}
+use Prim.Native.Nat.{ℕ, zero, suc, _+_, _*_, _-_, _≤_, _<_, min}
 use native.Mathlib.Omega.{arith}
 use mathlib.Core.Path.{_≡_, refl, sym, ap, subst, _∙_}
 use mathlib.Core.Logic.{_≢_, _⊎_}
@@ -12,7 +10,7 @@ use lib.Dec.{eqb, leb, ltb}
 use borrow.Author.Tests.{eqb-false, eqb-true, leb-false, leb-true, lt-leb, ltb-false, not-false, not-true}
 use Rattle.wire.specs.Bytes.{bit, bits, byteAt, numberAt}
 use Rattle.wire.specs.Choice.{pick, both, either, Line, line, first, firstOf, without}
-use Rattle.wire.specs.Meaning.{Outside, Row, _means_}
+use Rattle.wire.specs.Meaning.{Row, _means_}
 use Rattle.wire.proofs.Choice.{both-true, never, not-first}
 use Rattle.wire.proofs.Meaning.{Gives, gives-last, gives-row, or-else, or-zero, orElse, Tells, tells-both, tells-either, tells-eq, tells-le, tells-lt, tells-not, tells-outside}
 use Rattle.rules.specs.declared.Answer.the-variants.{PassedBy}
@@ -23,28 +21,18 @@ use Rattle.rules.specs.declared.State.{State}
 use Rattle.rules.specs.declared.State.the-variants.{Idle, Open}
 use Rattle.rules.specs.Check.{addressScrambled, check, checkLines, datagramForm, fault, faultLines, formLines, notCurrent, orderLines, otherTable, outOfOrder, tooShort, wrongCrc, wrongLength, wrongSyntax}
 use Rattle.rules.specs.Crc.{crc32}
-use Rattle.rules.specs.Meaning.{CheckMeans, CutInto, filledBefore, GoesOn, GoodState, ReceiverMeans, SameAddress, sectionRows, SenderMeans}
+use Rattle.rules.specs.Meaning.{CheckMeans, CutInto, filledBefore, GoesOn, GoodState, DefaultMeans, ReceiverMeans, SameAddress, sectionRows, SenderMeans, sharedRows}
 use Rattle.rules.specs.Section.{address, addressScramblingControl, crcField, currentNextIndicator, lastSectionNumber, llcSnapFlag, payload, payloadScramblingControl, privateIndicator, sectionLength, sectionNumber, sectionSyntaxIndicator, tableId}
 use Rattle.rules.specs.Step.{barLines, continues, From, goodRun, goodSettings, goodState, keep, keyOf, lay, Nowhere, numberOf, onward, ours, Outcome, outcome, overLimit, payloadScrambled, place, refuse, refuseFirst, room, sameKey, stepOf, finish}
 use Rattle.rules.proofs.Compared.{compares-last}
+use Rattle.rules.proofs.Good.{good-is}
 use Rattle.rules.specs.Send.{sectionCount, sections, sendingNumber, sendLines, SendOutcome, sentOf, written}
-use Rattle.rules.proofs.Send.{count-covers, count-some, sections-bytes}
+use Rattle.rules.proofs.Send.{cut, one-cut, sections-bytes}
 use Rattle.rules.proofs.Sound.{payload-length}
 
 -- ---- 12 to 18, for any table
-abbrev pub faultRows : Form → Type 0 → List ℕ → List Row → List Row
-faultRows f p15 s rest =
-    12 means (length s < f .fewest)
-    ∷ 13 means (byteAt s 0 ≢ f .table)
-    ∷ 14 means ((4093 < sectionLength s) ⊎ (sectionLength s + 3 ≢ length s))
-    ∷ 15 means p15
-    ∷ 16 means (numberAt 4 s (length s - 4) ≢ crc32 (take (length s - 4) s))
-    ∷ 17 means (bit 0 (byteAt s 5) ≡ 0)
-    ∷ 18 means (byteAt s 7 < byteAt s 6)
-    ∷ rest
-
 pub gives-fault : (f : Form) (s : List ℕ) (p15 : Type 0) (m : ℕ) (rest : List Row) → Tells (wrongSyntax f s) p15
-    → (fault f s ≡ 0 → f .fewest ≤ length s → Gives m rest) → Gives (orElse (faultLines f s) m) (faultRows f p15 s rest)
+    → (fault f s ≡ 0 → f .fewest ≤ length s → Gives m rest) → Gives (orElse (faultLines f s) m) (sharedRows (f .fewest) (f .table) p15 s ++ rest)
 unfolding orElse fault faultLines formLines orderLines firstOf tooShort otherTable wrongLength wrongCrc notCurrent outOfOrder tableId crcField currentNextIndicator sectionNumber lastSectionNumber
 gives-fault f s p15 m rest h15 g =
     gives-row _ 12 (tells-lt (length s) (f .fewest)) (λ e12.
@@ -70,16 +58,7 @@ pub check-means : CheckMeans
 unfolding check
 check-means s n = rw (or-zero (checkLines s)) (gives-check s 0 _ (λ _. gives-last 0 tt) .exactly n)
 
--- ---- settings, states, addresses
-tells-nor : {p q : Type 0} (t u : Bool) → Tells (not t) p → Tells (not u) q → Tells (not (both t u)) (p ⊎ q)
-unfolding both either
-tells-nor true u h k = tells-either false (not u) h k
-tells-nor false u h k = tells-either true (not u) h k
-
-settings-tell : (c : Settings) → Tells (not (goodSettings c)) (Outside 1 6 (c .range) ⊎ Outside 1 255 (c .limit))
-unfolding goodSettings
-settings-tell c = tells-nor _ _ (tells-outside 1 6 (c .range)) (tells-outside 1 255 (c .limit))
-
+-- ---- states, addresses
 state-tells : (σ : State) → Tells (goodState σ) (GoodState σ)
 unfolding goodState GoodState goodRun
 state-tells Idle = (λ _. tt, λ _. refl)
@@ -129,11 +108,11 @@ pick-first false k m = refl
 tells-over : (x r : ℕ) → Tells (not (leb x r)) (r < x)
 tells-over x r = (λ p. leb-false x r (not-true _ p), λ h. ap not (lt-leb x r h))
 
-filled-zero : (σ : State) (i : ℕ) → i ≡ 0 → filledBefore σ i ≡ 0
+pub filled-zero : (σ : State) (i : ℕ) → i ≡ 0 → filledBefore σ i ≡ 0
 unfolding filledBefore
 filled-zero σ i e = rw e
 
-filled-open : (e f : ℕ) (κ : Key) (i : ℕ) → i ≢ 0 → filledBefore (Open e f κ) i ≡ f
+pub filled-open : (e f : ℕ) (κ : Key) (i : ℕ) → i ≢ 0 → filledBefore (Open e f κ) i ≡ f
 unfolding filledBefore
 filled-open e f κ zero h = absurd (h refl)
 filled-open e f κ (suc i) h = refl
@@ -217,7 +196,7 @@ pub receiver-means : ReceiverMeans
 unfolding orElse barLines payloadScrambled overLimit payloadScramblingControl lastSectionNumber
 receiver-means c σ s b n =
     rw (number-step c σ s b)
-    (gives-row _ 10 (settings-tell c) (λ _.
+    (gives-row _ 10 (tells-not _ (good-is c)) (λ _.
     gives-row _ 11 (tells-not _ (state-tells σ)) (λ _.
     gives-check s _ _ (λ l.
     gives-row _ 2 (tells-not _ (own-tells c s)) (λ _.
@@ -226,33 +205,9 @@ receiver-means c σ s b n =
 
 -- ---- the sender
 module _ (n : ℕ) (u : List ℕ) (some : 0 < n) where
-  -- fewer sections do not hold the unit
-  fewest : (j : ℕ) → 1 ≤ j → length u ≤ j * n → sectionCount n u ≤ j
-  unfolding sectionCount
-  fewest j h l = go (decLe (sectionCount n u) j)
-    where
-      go : Dec (sectionCount n u ≤ j) → sectionCount n u ≤ j
-      go (yes m) = m
-      go (no m) =
-          let q : ℕ = (length u + (n - 1)) / n in
-          let within : q * n ≤ length u + (n - 1) = div-mul-le-self _ n in
-          let next : suc j ≤ q = omega arith in
-          let more : suc j * n ≤ q * n = mul-le-mul-right n next in
-          let step : suc j * n ≡ j * n + n = suc-mul j n in
-          absurd (omega arith)
-
-  cut : CutInto n u (sectionCount n u)
-  cut = record { some = count-some n u; holds = count-covers n u some; fewest = fewest }
-
-  one-cut : (k : ℕ) → CutInto n u k → k ≡ sectionCount n u
-  one-cut k w =
-      let down : k ≤ sectionCount n u = w .fewest (sectionCount n u) (cut .some) (cut .holds) in
-      let up : sectionCount n u ≤ k = fewest k (w .some) (w .holds) in
-      omega arith
-
   -- what is tested of their number is so of the number that the unit is cut into
   counted : (t : Bool) (P : ℕ → Type 0) → Tells t (P (sectionCount n u)) → Tells t ((k : ℕ) × CutInto n u k × P k)
-  counted t P h = (λ e. (sectionCount n u, cut, h .0 e), λ w. h .1 (subst P (one-cut (w .0) (w .1)) (w .2)))
+  counted t P h = (λ e. (sectionCount n u, cut n u some, h .0 e), λ w. h .1 (subst P (one-cut n u some (w .0) (w .1)) (w .2)))
 
 sending-pick : (t : Bool) (o r : SendOutcome) → sendingNumber (pick t o r .sending) ≡ pick t (sendingNumber (o .sending)) (sendingNumber (r .sending))
 unfolding pick
@@ -269,7 +224,7 @@ pub sender-means : SenderMeans
 unfolding orElse sendLines
 sender-means c flag size u out n =
     rw (number-sent c flag size u out)
-    (gives-row _ 10 (settings-tell c) (λ _.
+    (gives-row _ 10 (tells-not _ (good-is c)) (λ _.
     gives-row _ 50 (tells-outside 1 4080 size) (λ e50.
     gives-row _ 51 (tells-lt 65535 (length u)) (λ _.
     let some : 0 < size = leb-true 1 size (both-true _ _ (not-false _ e50) .0) in
@@ -278,3 +233,6 @@ sender-means c flag size u out n =
     (counted size u some (ltb (length out) (length (flatten (sections c flag size u)))) (λ k. length out < length u + 16 * k)
     (rw (sections-bytes c flag size u some) (tells-lt (length out) (length u + 16 * sectionCount size u)))) (λ _.
     gives-last 0 tt))))) .exactly n)
+
+pub default-means : DefaultMeans
+default-means c flag u out n = sender-means c flag 4080 u out n

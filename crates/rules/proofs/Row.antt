@@ -1,19 +1,17 @@
 -- Demand 3 goes by the row: what is held after each event stands for the open run that the struck row ends in.
-use Prim.Native.Nat.{ℕ, _<_}
+use Prim.Native.Nat.{ℕ}
 use native.Mathlib.Omega.{arith}
-use mathlib.Core.Path.{_≡_, refl, ap, sym, _∙_}
+use mathlib.Core.Path.{_≡_, refl, _∙_}
 use mathlib.Core.Logic.{_↔_}
 use mathlib.Core.Bool.{Bool, true, false}
 use mathlib.Core.List.{List, [], _∷_, _++_, append-assoc, append-nil}
-use lib.ListN.{length, length-append}
 use Rattle.wire.specs.Choice.{pick}
 use Rattle.wire.proofs.Choice.{never}
 use Rattle.rules.specs.declared.Settings.{Settings}
 use Rattle.rules.specs.Step.{gapOf, goodSettings, goodState}
 use Rattle.rules.specs.Row.{Event, section, gap, Held, fresh, next, after, nothing, datagram, handedBy, handedOver}
-use Rattle.rules.specs.Row.{elsewhere, strike}
-use Rattle.rules.proofs.Tested.{Ready, AtEvent, Once, RowTheorem}
-use Rattle.rules.proofs.Runs.{no-gap, whole-ends, only, apart}
+use Rattle.rules.proofs.Tested.{elsewhere, strike, Ready, RowTheorem}
+use Rattle.rules.proofs.Runs.{no-gap}
 use Rattle.rules.proofs.Track.{good-state}
 use Rattle.rules.proofs.Due.{no-datagram, passes, Holds, started, due-holds, due-hands, due}
 
@@ -92,25 +90,10 @@ module _ (c : Settings) (b : List ℕ) (good : goodSettings c ≡ true) where
   pub good-kept : (r : List Event) → goodState (after c (fresh b) r .state) ≡ true
   good-kept r = good-held (from-fresh r)
 
-  -- ---- the demand
-  at-event : (r : List Event) (e : Event) → AtEvent c b r e
-  at-event r e =
-      let h : Held = after c (fresh b) r in
-      record {
-        struck = struck-hands c h e good (good-kept r);
-        exactly = λ kept n d. rw (strike-kept c r e kept) (kept-hands (strike c r) h e (from-fresh r) kept n d);
-        only = λ xs ys u v x y.
-            let same = only c b (whole-ends c b u x) (whole-ends c b v y) (omega (arith, u .whole)) (omega (arith, v .whole)) in
-            same .sections;
-      }
-
-  at-once : Once c b
-  at-once r q e e′ kept xs ys u v x y =
-      let row : List Event = strike c (r ++ (e ∷ [])) in
-      let later : List Event = strike c (q ++ (e′ ∷ [])) in
-      let split = sym (strike-append c (r ++ (e ∷ [])) (q ++ (e′ ∷ []))) ∙ y .split in
-      let more : 0 < length later = omega (arith, ap length (strike-kept c q e′ kept), length-append (strike c q) (e′ ∷ [])) in
-      apart c b row later u v x (record { front = y .front; split = split }) more
-
 pub row-theorem : RowTheorem
-row-theorem c b good = record { each = at-event c b good; once = at-once c b good }
+row-theorem c b good r e =
+    let h : Held = after c (fresh b) r in
+    record {
+      struck = struck-hands c h e good (good-kept c b good r);
+      exactly = λ kept n d. rw (strike-kept c r e kept) (kept-hands c b good (strike c r) h e (from-fresh c b good r) kept n d);
+    }

@@ -1,7 +1,7 @@
 -- Pieces of n bytes are cut off the front until nothing is left, so the first k of them are the unit's first k * n bytes.
 use Prim.Native.Nat.{ℕ, zero, suc, _+_, _*_, _-_, _/_, _≤_, _<_, max}
 use native.Mathlib.Nat.{div-mul-le-self, le-max-right, le-refl, lt-div-mul-add, mul-le-mul-left, mul-le-mul-right, suc-mul, zero-mul}
-use native.Mathlib.Decide.{decLt, ℕ-discrete}
+use native.Mathlib.Decide.{decLe, decLt, ℕ-discrete}
 use native.Mathlib.Omega.{arith}
 use mathlib.Core.Path.{_≡_, refl, ap, sym, _∙_}
 use mathlib.Core.Bool.{Bool}
@@ -15,17 +15,25 @@ use Rattle.rules.specs.declared.Address.{Address}
 use Rattle.rules.specs.declared.Settings.{Settings}
 use Rattle.rules.specs.declared.Sending.the-variants.{Sent, Unsent}
 use Rattle.rules.specs.Section.{header, sectionOf}
-use Rattle.rules.specs.Demand2.{Accepted, AcceptsExactly}
+use Rattle.rules.specs.Meaning.{CutInto, Good}
 use Rattle.rules.proofs.Tested.{joined}
 use Rattle.rules.specs.Send.{piece, sectionAt, sectionCount, sections, sectionsTo, sendingLength, sendingNumber, sendLines, SendOutcome, sentOf, written}
-use Rattle.rules.specs.Written.{Written}
 use Rattle.rules.proofs.Lists.{length-more}
 use Rattle.rules.proofs.Runs.{joined-more}
 use Rattle.wire.proofs.Choice.{both-true, none-first}
 use Rattle.rules.proofs.Good.{good-is}
-use Rattle.rules.proofs.Written.{sealed-length, written-is-read}
+use Rattle.rules.proofs.Written.{sealed-length, Written, written-is-read}
 
 -- ---- what is accepted
+-- none of 10 and 50 to 53 applies
+pub record Accepted (c : Settings) (flag : Bool) (size : ℕ) (u out : List ℕ) : Type 0 where
+  pub settings : Good c
+  pub some : 1 ≤ size
+  pub most : size ≤ 4080
+  pub unit : length u ≤ 65535
+  pub limit : sectionCount size u ≤ c .limit
+  pub room : length (flatten (sections c flag size u)) ≤ length out
+
 -- the numbers of its sections are bytes
 pub count-byte : {c : Settings} {flag : Bool} {n : ℕ} {u out : List ℕ} → Accepted c flag n u out → sectionCount n u ≤ 255
 count-byte a = omega (arith, a .limit, a .settings .limit255)
@@ -48,18 +56,6 @@ module _ (c : Settings) (flag : Bool) (n : ℕ) (u out : List ℕ) where
         limit = ltb-false _ _ (t52 .0);
         room = ltb-false _ _ (t53 .0);
       }
-
-  refuses-nothing : Accepted c flag n u out → firstOf (sendLines c flag n u out) ≡ 0
-  unfolding sendLines firstOf first both
-  refuses-nothing a =
-      rw (
-        good-is c .1 (a .settings),
-        le-leb 1 n (a .some),
-        le-leb n 4080 (a .most),
-        le-ltb 65535 (length u) (a .unit),
-        le-ltb (c .limit) (sectionCount n u) (a .limit),
-        le-ltb (length out) (length (flatten (sections c flag n u))) (a .room),
-      )
 
   -- ---- the outcome
   pub unsent-is : (firstOf (sendLines c flag n u out) ≡ 0 → ⊥)
@@ -141,6 +137,31 @@ module _ (n : ℕ) (u : List ℕ) (some : 0 < n) where
       let k : ℕ = sectionCount n u - 1 in
       let needed : k * n ≤ length u = count-needed k (omega (arith, count-some n u)) in
       let more : k * 1 ≤ k * n = mul-le-mul-left k some in
+      omega arith
+
+  -- ---- it is cut into so many
+  -- fewer sections do not hold the unit
+  pub fewest : (j : ℕ) → 1 ≤ j → length u ≤ j * n → sectionCount n u ≤ j
+  unfolding sectionCount
+  fewest j h l = go (decLe (sectionCount n u) j)
+    where
+      go : Dec (sectionCount n u ≤ j) → sectionCount n u ≤ j
+      go (yes m) = m
+      go (no m) =
+          let q : ℕ = (length u + (n - 1)) / n in
+          let within : q * n ≤ length u + (n - 1) = div-mul-le-self _ n in
+          let next : suc j ≤ q = omega arith in
+          let more : suc j * n ≤ q * n = mul-le-mul-right n next in
+          let step : suc j * n ≡ j * n + n = suc-mul j n in
+          absurd (omega arith)
+
+  pub cut : CutInto n u (sectionCount n u)
+  cut = record { some = count-some n u; holds = count-covers; fewest = fewest }
+
+  pub one-cut : (k : ℕ) → CutInto n u k → k ≡ sectionCount n u
+  one-cut k w =
+      let down : k ≤ sectionCount n u = w .fewest (sectionCount n u) (cut .some) (cut .holds) in
+      let up : sectionCount n u ≤ k = fewest k (w .some) (w .holds) in
       omega arith
 
 -- ---- the pieces
@@ -232,12 +253,3 @@ module _ (c : Settings) (flag : Bool) (n : ℕ) (u : List ℕ) where
     pub sections-joined : joined (sections c flag n u) ≡ u
     unfolding sections
     sections-joined = joined-to (sectionCount n u) (le-refl (sectionCount n u)) ∙ pieces-all n u some
-
-pub accepts-exactly : AcceptsExactly
-unfolding written
-accepts-exactly c flag n u out m = (
-  λ p. let g = given c flag n u out m p in (g .accepted, g .size ∙ sections-bytes c flag n u (g .accepted .some)),
-  λ q.
-      rw (sent-is c flag n u out (refuses-nothing c flag n u out (q .0)))
-      (ap Sent (sections-bytes c flag n u (q .0 .some) ∙ sym (q .1))),
-)

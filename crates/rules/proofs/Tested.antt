@@ -3,14 +3,26 @@ use Prim.Native.Nat.{ℕ, _+_, _≤_, _<_}
 use mathlib.Core.Path.{_≡_}
 use mathlib.Core.Logic.{_↔_}
 use mathlib.Core.List.{List, [], _∷_, _++_, map}
-use mathlib.Core.Bool.{true, false}
+use mathlib.Core.Bool.{Bool, true, false, not}
 use lib.ListN.{length, getD}
+use lib.Dec.{eqb}
+use Rattle.wire.specs.Choice.{pick, both}
 use Rattle.rules.specs.declared.Settings.{Settings}
 use Rattle.rules.specs.declared.Key.{Key}
 use Rattle.rules.specs.Check.{check}
 use Rattle.rules.specs.Section.{lastSectionNumber, payload, payloadScramblingControl, sectionNumber}
 use Rattle.rules.specs.Step.{goodSettings, keyOf, ours, room}
-use Rattle.rules.specs.Row.{after, datagram, elsewhere, Event, fresh, handedOver, nothing, section, strike}
+use Rattle.rules.specs.Row.{after, datagram, Event, fresh, gap, handedOver, nothing, section}
+
+-- a sound section for another address
+unfoldable pub elsewhere : Settings → Event → Bool
+elsewhere c (section s) = both (eqb (check s) 0) (not (ours c s))
+elsewhere c gap = false
+
+-- the row with the sound sections for other addresses struck out
+unfoldable pub strike : Settings → List Event → List Event
+strike c [] = []
+strike c (e ∷ r) = pick (elsewhere c e) (strike c r) (e ∷ strike c r)
 
 -- sound, for this address, not scrambled (20), and its last number within the section limit (21)
 pub record Receivable (c : Settings) (s : List ℕ) : Type 0 where
@@ -66,21 +78,7 @@ pub record AtEvent (c : Settings) (b : List ℕ) (r : List Event) (e : Event) : 
   -- at any other, a datagram is handed over exactly when the struck row ends there in a whole run; it is their payloads joined
   pub exactly : elsewhere c e ≡ false → (n : ℕ) (d : List ℕ) →
       (handedOver c (after c (fresh b) r) e ≡ datagram n d) ↔ Ready c b (strike c (r ++ (e ∷ []))) n d
-  -- that run is the only one ending there
-  pub only : (xs ys : List (List ℕ)) → WholeRun c b xs → WholeRun c b ys
-      → Ends (strike c (r ++ (e ∷ []))) xs → Ends (strike c (r ++ (e ∷ []))) ys → xs ≡ ys
-
--- no section serves two datagrams: of two runs in one row, the later begins behind the end of the earlier
-abbrev pub Once : Settings → List ℕ → Type 0
-Once c b =
-    (r q : List Event) (e e′ : Event) → elsewhere c e′ ≡ false → (xs ys : List (List ℕ)) → WholeRun c b xs → WholeRun c b ys
-    → Ends (strike c (r ++ (e ∷ []))) xs → (y : Ends (strike c ((r ++ (e ∷ [])) ++ (q ++ (e′ ∷ [])))) ys)
-    → length (strike c (r ++ (e ∷ []))) ≤ length (y .front)
 
 -- for good settings and any buffer, at every event of every row
-pub record EveryRow (c : Settings) (b : List ℕ) : Type 0 where
-  pub each : (r : List Event) (e : Event) → AtEvent c b r e
-  pub once : Once c b
-
 abbrev pub RowTheorem : Type 0
-RowTheorem = (c : Settings) (b : List ℕ) → goodSettings c ≡ true → EveryRow c b
+RowTheorem = (c : Settings) (b : List ℕ) → goodSettings c ≡ true → (r : List Event) (e : Event) → AtEvent c b r e

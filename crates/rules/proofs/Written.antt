@@ -18,7 +18,6 @@ use Rattle.rules.specs.Check.{addressScrambled, check, checkLines, datag
 use Rattle.rules.specs.Crc.{crc32}
 use Rattle.rules.specs.Section.{address, addressScramblingControl, crcField, currentNextIndicator, header, lastSectionNumber, llcSnapFlag, payload, payloadScramblingControl, privateIndicator, sealed, sectionLength, sectionNumber, sectionOf, sectionSyntaxIndicator, tableId}
 use Rattle.rules.specs.Sound.{Limits, table3, Values}
-use Rattle.rules.specs.Written.{WrittenIsRead}
 use Rattle.rules.proofs.Crc.{crc32-lt}
 
 -- ---- bytes with their CRC_32 behind them
@@ -166,7 +165,19 @@ pub sent-limits : (a : Address) (flag : Bool) (number last : ℕ) (p : List ℕ)
 sent-limits a flag number last p h k =
     record { scrambling = omega arith; reserved1 = omega arith; reserved5 = omega arith; order = h; size = k }
 
-pub written-is-read : WrittenIsRead
+-- the section with these values is sound, is not scrambled, and gives each of them back
+pub record Written (a : Address) (flag : Bool) (number last : ℕ) (p : List ℕ) : Type 0 where
+  pub sound : check (sectionOf a flag number last p) ≡ 0
+  pub size : length (sectionOf a flag number last p) ≡ length p + 16
+  pub addressed : address (sectionOf a flag number last p) ≡ a
+  pub clear : payloadScramblingControl (sectionOf a flag number last p) ≡ 0
+  pub flagged : llcSnapFlag (sectionOf a flag number last p) ≡ flag
+  pub numbered : sectionNumber (sectionOf a flag number last p) ≡ number
+  pub ending : lastSectionNumber (sectionOf a flag number last p) ≡ last
+  pub carried : payload (sectionOf a flag number last p) ≡ p
+
+pub written-is-read : (a : Address) (flag : Bool) (number last : ℕ) (p : List ℕ) → number ≤ last → length p ≤ 4080
+    → Written a flag number last p
 written-is-read a flag number last p h k =
     let v : Values = sent a flag number last p in
     let l : Limits v = sent-limits a flag number last p h k in

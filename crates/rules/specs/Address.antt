@@ -1,9 +1,8 @@
 -- Which bytes of two addresses are compared: EN 301 192 V1.3.1, table 7; document 01, 'Settings'.
 use Prim.Native.Nat.{ℕ, _-_, _≤_}
 use mathlib.Core.Path.{_≡_}
-use mathlib.Core.Logic.{_↔_}
 use mathlib.Core.List.{List, [], _∷_}
-use mathlib.Core.Bool.{Bool, true}
+use mathlib.Core.Bool.{Bool}
 use lib.Dec.{eqb, ltb}
 use Rattle.wire.specs.Bytes.{byteAt}
 use Rattle.wire.specs.Choice.{both, either}
@@ -25,8 +24,6 @@ sameAddress range a b =
 abbrev pub addressBytes : Address → List ℕ
 addressBytes a = a .mac1 ∷ a .mac2 ∷ a .mac3 ∷ a .mac4 ∷ a .mac5 ∷ a .mac6 ∷ []
 
--- range n compares the last n bytes of an address, as it is printed: a theorem, shown in proofs/Compared.antt
-abbrev pub ComparesLast : Type 0
-ComparesLast =
-    (n : ℕ) (a b : Address)
-    → (sameAddress n a b ≡ true) ↔ ((i : ℕ) → 6 - n ≤ i → byteAt (addressBytes a) i ≡ byteAt (addressBytes b) i)
+-- of two addresses, as they are printed, the last n bytes are equal: what a MAC_address_range of n compares
+abbrev pub LastEqual : ℕ → List ℕ → List ℕ → Type 0
+LastEqual n a b = (i : ℕ) → 6 - n ≤ i → byteAt a i ≡ byteAt b i

@@ -1,9 +1,8 @@
 -- Demand 2 of the sender and the receiver: the sender's sections, given in order to a fresh receiver with the same settings and room
 -- enough, give back exactly the bytes sent. A theorem, shown in proofs/Demand2.antt.
-use Prim.Native.Nat.{ℕ, _+_, _*_, _≤_, _<_}
+use Prim.Native.Nat.{ℕ, _+_, _≤_, _<_}
 use mathlib.Core.Path.{_≡_}
-use mathlib.Core.Logic.{_↔_}
-use mathlib.Core.List.{List, [], flatten, map}
+use mathlib.Core.List.{List, [], _∷_, _++_, flatten, map}
 use mathlib.Core.Bool.{Bool}
 use lib.ListN.{length, getD, take}
 use Rattle.rules.specs.declared.Settings.{Settings}
@@ -11,12 +10,35 @@ use Rattle.rules.specs.declared.Sending.the-variants.{Sent}
 use Rattle.rules.specs.declared.Answer.{Answer}
 use Rattle.rules.specs.declared.Answer.the-variants.{Delivered, Stored}
 use Rattle.rules.specs.Cut.{offers}
-use Rattle.rules.specs.Demand3.{Good, Receivable}
+use Rattle.rules.specs.Demand3.{joined, Receivable}
+use Rattle.rules.specs.Meaning.{CutInto}
 use Rattle.rules.specs.Row.{after, fresh, Held, section}
 use Rattle.rules.specs.Sound.{table3, Values}
-use Rattle.rules.specs.Send.{sectionCount, sections, sentOf}
+use Rattle.rules.specs.Send.{sentOf}
 use Rattle.rules.specs.Step.{stepOf}
 
+-- ---- what is sent
+-- section i of so many, by the values that table 3 leaves open: reserved bits are ones, nothing is scrambled, and each but the last
+-- carries exactly the piece size
+pub record SectionSent (c : Settings) (flag : Bool) (size count i : ℕ) (v : Values) : Type 0 where
+  pub address : v .address ≡ c .address
+  pub clear : v .scrambling ≡ 0
+  pub flagged : v .flag ≡ flag
+  pub numbered : v .number ≡ i
+  pub ending : v .last + 1 ≡ count
+  pub reserved1 : v .reserved1 ≡ 3
+  pub reserved5 : v .reserved5 ≡ 3
+  pub full : i + 1 < count → length (v .payload) ≡ size
+
+-- the bytes are the sections of the unit, back to back: as many as it is cut into, and their payloads joined are the unit
+pub record Sections (c : Settings) (flag : Bool) (size : ℕ) (u bytes : List ℕ) : Type 0 where
+  pub values : List Values
+  pub cut : CutInto size u (length values)
+  pub each : (front back : List Values) (v : Values) → values ≡ front ++ (v ∷ back) → SectionSent c flag size (length values) (length front) v
+  pub unit : joined values ≡ u
+  pub is : bytes ≡ flatten (map table3 values)
+
+-- ---- what is received
 -- what a receiver answers to section i of the row xs, given after those before it to a fresh receiver with the buffer b
 unfoldable pub answerAt : Settings → List ℕ → List (List ℕ) → ℕ → Answer
 answerAt c b xs i =
@@ -30,28 +52,14 @@ pub record Arrives (c : Settings) (b : List ℕ) (xs : List (List ℕ)) (u : Lis
   pub delivered : (i : ℕ) → i + 1 ≡ length xs → answerAt c b xs i ≡ Delivered (length u)
   pub unit : take (length u) (after c (fresh b) (map section xs) .buffer) ≡ u
 
--- cut as the listing cuts, these bytes are as many sections as 52 counts, and carry the unit to any buffer with room
-pub record Demand2 (c : Settings) (size : ℕ) (u bytes : List ℕ) : Type 0 where
-  pub counted : length (offers bytes) ≡ sectionCount size u
+-- these bytes are the sections of the unit; cut as the listing cuts, they are these one by one, and carry the unit to any buffer with room
+pub record Demand2 (c : Settings) (flag : Bool) (size : ℕ) (u bytes : List ℕ) : Type 0 where
+  pub sections : Sections c flag size u bytes
+  pub offered : offers bytes ≡ map table3 (sections .values)
   pub arrives : (b : List ℕ) → length u ≤ length b → Arrives c b (offers bytes) u
 
--- none of 10 and 50 to 53 applies
-pub record Accepted (c : Settings) (flag : Bool) (size : ℕ) (u out : List ℕ) : Type 0 where
-  pub settings : Good c
-  pub some : 1 ≤ size
-  pub most : size ≤ 4080
-  pub unit : length u ≤ 65535
-  pub limit : sectionCount size u ≤ c .limit
-  pub room : length (flatten (sections c flag size u)) ≤ length out
-
--- the sender accepts exactly there, and gives the unit's bytes and 16 more for each section
-abbrev pub AcceptsExactly : Type 0
-AcceptsExactly =
-    (c : Settings) (flag : Bool) (size : ℕ) (u out : List ℕ) (n : ℕ)
-    → (sentOf c flag size u out .sending ≡ Sent n) ↔ (Accepted c flag size u out × (n ≡ length u + 16 * sectionCount size u))
-
--- the n bytes that the sender gives do, wherever it accepts: good settings, either flag, any unit, any piece size from 1 to 4,080
+-- the bytes that the sender gives do, wherever it accepts: good settings, either flag, any unit, any piece size from 1 to 4,080
 abbrev pub RoundTrip : Type 0
 RoundTrip =
     (c : Settings) (flag : Bool) (size : ℕ) (u out : List ℕ) (n : ℕ) → sentOf c flag size u out .sending ≡ Sent n
-    → Demand2 c size u (take n (sentOf c flag size u out .output))
+    → Demand2 c flag size u (take n (sentOf c flag size u out .output))

@@ -1,15 +1,16 @@
 -- Demand 3 by values and bytes alone, with none of the receiver's own tests. A theorem, shown in proofs/Demand3.antt.
-use Prim.Native.Nat.{ℕ, _+_, _-_, _≤_}
+use Prim.Native.Nat.{ℕ, _+_, _≤_}
 use mathlib.Core.Path.{_≡_}
-use mathlib.Core.Logic.{_↔_}
+use mathlib.Core.Logic.{_↔_, _⊎_}
 use mathlib.Core.List.{List, [], _∷_, _++_, map}
-use mathlib.Core.Bool.{Bool, true}
+use mathlib.Core.Bool.{Bool}
 use lib.ListN.{length}
-use Rattle.wire.specs.Bytes.{Bytes, byteAt}
+use Rattle.wire.specs.Bytes.{Bytes}
 use Rattle.rules.specs.declared.Settings.{Settings}
-use Rattle.rules.specs.Address.{addressBytes}
+use Rattle.rules.specs.Address.{addressBytes, LastEqual}
+use Rattle.rules.specs.Meaning.{Good}
 use Rattle.rules.specs.Sound.{Limits, table3, Values}
-use Rattle.rules.specs.Row.{after, datagram, elsewhere, Event, fresh, gap, handedOver, nothing, section, strike}
+use Rattle.rules.specs.Row.{after, datagram, Event, fresh, gap, Handed, handedOver, nothing, section}
 
 -- every section of a row is a list of bytes
 unfoldable pub OfBytes : List Event → Type 0
@@ -17,22 +18,21 @@ OfBytes [] = Unit
 OfBytes (section s ∷ r) = Bytes s × OfBytes r
 OfBytes (gap ∷ r) = OfBytes r
 
-pub record Good (c : Settings) : Type 0 where
-  pub range1 : 1 ≤ c .range
-  pub range6 : c .range ≤ 6
-  pub limit1 : 1 ≤ c .limit
-  pub limit255 : c .limit ≤ 255
-
--- for this address: of the two addresses as they are printed, the last bytes are equal, as many as the range says
+-- for this address: as many of the last bytes as the range says are the own address's
 abbrev pub Own : Settings → Values → Type 0
-Own c v = (i : ℕ) → 6 - c .range ≤ i → byteAt (addressBytes (c .address)) i ≡ byteAt (addressBytes (v .address)) i
+Own c v = LastEqual (c .range) (addressBytes (c .address)) (addressBytes (v .address))
 
 -- a sound section for another address
 pub record Elsewhere (c : Settings) (e : Event) : Type 0 where
   pub values : Values
   pub limits : Limits values
   pub is : e ≡ section (table3 values)
-  pub other : Own c values → ⊥
+  pub other : ¬ Own c values
+
+-- t is the row r with the sound sections for other addresses struck out
+unfoldable pub Struck : Settings → List Event → List Event → Type 0
+Struck c [] t = t ≡ []
+Struck c (e ∷ r) t = (Elsewhere c e × Struck c r t) ⊎ ((¬ Elsewhere c e) × ((u : List Event) × (t ≡ e ∷ u) × Struck c r u))
 
 -- sound, for this address, not scrambled (20), and its last number within the section limit (21)
 pub record Receivable (c : Settings) (v : Values) : Type 0 where
@@ -77,30 +77,33 @@ pub record Ready (c : Settings) (b : List ℕ) (row : List Event) (n : ℕ) (d :
   pub bytes : d ≡ joined sections
   pub size : n ≡ length d
 
--- at the event e behind the row r
-pub record AtEvent (c : Settings) (b : List ℕ) (r : List Event) (e : Event) : Type 0 where
-  -- what `strike` strikes out is a sound section for another address
-  pub tells : (elsewhere c e ≡ true) ↔ Elsewhere c e
-  -- there, nothing is handed over
-  pub struck : Elsewhere c e → handedOver c (after c (fresh b) r) e ≡ nothing
-  -- at any other, a datagram is handed over exactly when the struck row ends there in a whole run; it is their payloads joined
-  pub exactly : (Elsewhere c e → ⊥) → (n : ℕ) (d : List ℕ) →
-      (handedOver c (after c (fresh b) r) e ≡ datagram n d) ↔ Ready c b (strike c (r ++ (e ∷ []))) n d
-  -- that run is the only one ending there
-  pub only : (xs ys : List Values) → WholeRun c b xs → WholeRun c b ys
-      → Ends (strike c (r ++ (e ∷ []))) xs → Ends (strike c (r ++ (e ∷ []))) ys → xs ≡ ys
+-- at the event e behind the row r, d is handed over
+pub record HandedRight (c : Settings) (b : List ℕ) (r : List Event) (e : Event) (d : Handed) : Type 0 where
+  -- nothing at a sound section for another address
+  pub struck : Elsewhere c e → d ≡ nothing
+  -- at any other event a datagram exactly when the struck row ends there in a whole run; it is their payloads joined
+  pub exactly : ¬ Elsewhere c e → (t : List Event) → Struck c (r ++ (e ∷ [])) t
+      → (n : ℕ) (u : List ℕ) → (d ≡ datagram n u) ↔ Ready c b t n u
 
--- no section serves two datagrams: of two runs in one row, the later begins behind the end of the earlier
+-- every row of bytes can be struck
+abbrev pub CanBeStruck : Settings → Type 0
+CanBeStruck c = (r : List Event) → OfBytes r → (t : List Event) × Struck c r t
+
+-- that run is the only one ending there
+abbrev pub OnlyOne : Settings → List ℕ → Type 0
+OnlyOne c b = (row : List Event) (xs ys : List Values) → WholeRun c b xs → WholeRun c b ys → Ends row xs → Ends row ys → xs ≡ ys
+
+-- no section serves two datagrams: of two whole runs that a row ends in, there and further on, the later begins behind the end of the earlier
 abbrev pub Once : Settings → List ℕ → Type 0
 Once c b =
-    (r q : List Event) (e e′ : Event) → OfBytes ((r ++ (e ∷ [])) ++ (q ++ (e′ ∷ []))) → (Elsewhere c e′ → ⊥)
-    → (xs ys : List Values) → WholeRun c b xs → WholeRun c b ys
-    → Ends (strike c (r ++ (e ∷ []))) xs → (y : Ends (strike c ((r ++ (e ∷ [])) ++ (q ++ (e′ ∷ [])))) ys)
-    → length (strike c (r ++ (e ∷ []))) ≤ length (y .front)
+    (r q : List Event) (e : Event) → ¬ Elsewhere c e → (t u : List Event) → Struck c r t → Struck c (r ++ (q ++ (e ∷ []))) u
+    → (xs ys : List Values) → WholeRun c b xs → WholeRun c b ys → Ends t xs → (y : Ends u ys) → length t ≤ length (y .front)
 
 -- Demand 3: for any settings and any buffer, at every event of every row of bytes
 pub record Demand3 (c : Settings) (b : List ℕ) : Type 0 where
-  pub each : (r : List Event) (e : Event) → OfBytes (r ++ (e ∷ [])) → AtEvent c b r e
+  pub each : (r : List Event) (e : Event) → OfBytes (r ++ (e ∷ [])) → HandedRight c b r e (handedOver c (after c (fresh b) r) e)
+  pub strikes : CanBeStruck c
+  pub only : OnlyOne c b
   pub once : Once c b
 
 abbrev pub Demand3Holds : Type 0

@@ -1,4 +1,5 @@
 pub mod Address
+pub mod After
 pub mod Check
 pub mod Crc
 pub mod Cut
@@ -10,4 +11,3 @@ pub mod Section
 pub mod Send
 pub mod Sound
 pub mod Step
-pub mod Written

@@ -12,26 +12,31 @@ use Rattle.wire.specs.Meaning.{FirstThat, otherwise, Outside, Row, _means_}
 use Rattle.rules.specs.declared.Settings.{Settings}
 use Rattle.rules.specs.declared.State.{State}
 use Rattle.rules.specs.declared.State.the-variants.{Idle, Open}
-use Rattle.rules.specs.Address.{addressBytes}
+use Rattle.rules.specs.Address.{addressBytes, LastEqual}
 use Rattle.rules.specs.Check.{check}
 use Rattle.rules.specs.Crc.{crc32}
 use Rattle.rules.specs.Section.{sectionLength}
-use Rattle.rules.specs.Send.{sendingNumber, sentOf}
+use Rattle.rules.specs.Send.{defaultPiece, sendingNumber, sentOf}
 use Rattle.rules.specs.Step.{numberOf, stepOf}
 
--- ---- the datagram section: table_id, section_length, section_syntax_indicator and private_indicator, CRC_32, current_next_indicator,
--- section_number and last_section_number, address scrambling
-abbrev pub sectionRows : List ℕ → List Row
-sectionRows s =
-    12 means (length s < 16)
-    ∷ 13 means (byteAt s 0 ≢ 0x3E)
+-- ---- sections
+-- 12 to 18, which the tables share: the fewest bytes of a section, its table_id, and what 15 means
+abbrev pub sharedRows : ℕ → ℕ → Type 0 → List ℕ → List Row
+sharedRows fewest table syntax s =
+    12 means (length s < fewest)
+    ∷ 13 means (byteAt s 0 ≢ table)
     ∷ 14 means ((4093 < sectionLength s) ⊎ (sectionLength s + 3 ≢ length s))
-    ∷ 15 means ((bit 7 (byteAt s 1) ≢ 1) ⊎ (bit 6 (byteAt s 1) ≢ 0))
+    ∷ 15 means syntax
     ∷ 16 means (numberAt 4 s (length s - 4) ≢ crc32 (take (length s - 4) s))
     ∷ 17 means (bit 0 (byteAt s 5) ≡ 0)
     ∷ 18 means (byteAt s 7 < byteAt s 6)
-    ∷ 19 means (bits 3 2 (byteAt s 5) ≢ 0)
     ∷ []
+
+-- the datagram section: section_syntax_indicator and private_indicator; address scrambling
+abbrev pub sectionRows : List ℕ → List Row
+sectionRows s =
+    sharedRows 16 0x3E ((bit 7 (byteAt s 1) ≢ 1) ⊎ (bit 6 (byteAt s 1) ≢ 0)) s
+    ++ (19 means (bits 3 2 (byteAt s 5) ≢ 0) ∷ [])
 
 abbrev pub checkRows : List ℕ → List Row
 checkRows s = sectionRows s ++ (0 means otherwise ∷ [])
@@ -39,19 +44,26 @@ checkRows s = sectionRows s ++ (0 means otherwise ∷ [])
 abbrev pub CheckMeans : Type 0
 CheckMeans = (s : List ℕ) (n : ℕ) → (check s ≡ n) ↔ FirstThat n (checkRows s)
 
--- ---- the receiver
+-- ---- settings and states
+pub record Good (c : Settings) : Type 0 where
+  pub range1 : 1 ≤ c .range
+  pub range6 : c .range ≤ 6
+  pub limit1 : 1 ≤ c .limit
+  pub limit255 : c .limit ≤ 255
+
 -- 1 ≤ e ≤ L ≤ 254, f ≤ 65,535 and f ≤ 4,080 e
 unfoldable pub GoodState : State → Type 0
 GoodState Idle = Unit
 GoodState (Open e f κ) = (1 ≤ e) × (e ≤ κ .last) × (κ .last ≤ 254) × (f ≤ 65535) × (f ≤ 4080 * e)
 
+-- ---- the receiver
 -- MAC_address_1 to 6 of a section, as an address is printed
 abbrev pub printed : List ℕ → List ℕ
 printed s = byteAt s 11 ∷ byteAt s 10 ∷ byteAt s 9 ∷ byteAt s 8 ∷ byteAt s 4 ∷ byteAt s 3 ∷ []
 
--- of the two addresses the last bytes are equal, as many as the range says
+-- as many of the last bytes as the range says are the own address's
 abbrev pub SameAddress : Settings → List ℕ → Type 0
-SameAddress c s = (i : ℕ) → 6 - c .range ≤ i → byteAt (addressBytes (c .address)) i ≡ byteAt (printed s) i
+SameAddress c s = LastEqual (c .range) (addressBytes (c .address)) (printed s)
 
 -- the number is e, the last number L, the LLC_SNAP_flag the run's
 unfoldable pub GoesOn : State → List ℕ → Type 0
@@ -66,7 +78,7 @@ filledBefore (Open e f κ) (suc i) = f
 
 abbrev pub receiverRows : Settings → State → List ℕ → List ℕ → List Row
 receiverRows c σ s b =
-    10 means (Outside 1 6 (c .range) ⊎ Outside 1 255 (c .limit))
+    10 means (¬ Good c)
     ∷ 11 means (¬ GoodState σ)
     ∷ (sectionRows s
     ++ (2 means (¬ SameAddress c s)
@@ -92,7 +104,7 @@ pub record CutInto (size : ℕ) (u : List ℕ) (k : ℕ) : Type 0 where
 -- a section has its piece of the unit and 16 bytes more
 abbrev pub senderRows : Settings → ℕ → List ℕ → List ℕ → List Row
 senderRows c size u out =
-    10 means (Outside 1 6 (c .range) ⊎ Outside 1 255 (c .limit))
+    10 means (¬ Good c)
     ∷ 50 means (Outside 1 4080 size)
     ∷ 51 means (65535 < length u)
     ∷ 52 means ((k : ℕ) × CutInto size u k × (c .limit < k))
@@ -104,3 +116,9 @@ abbrev pub SenderMeans : Type 0
 SenderMeans =
     (c : Settings) (flag : Bool) (size : ℕ) (u out : List ℕ) (n : ℕ)
     → (sendingNumber (sentOf c flag size u out .sending) ≡ n) ↔ FirstThat n (senderRows c size u out)
+
+-- where no piece size is given it is 4,080
+abbrev pub DefaultMeans : Type 0
+DefaultMeans =
+    (c : Settings) (flag : Bool) (u out : List ℕ) (n : ℕ)
+    → (sendingNumber (sentOf c flag defaultPiece u out .sending) ≡ n) ↔ FirstThat n (senderRows c 4080 u out)

@@ -1,17 +1,13 @@
 -- Rows of sections and gap notices, and what the receiver does with them.
 use Prim.Native.Nat.{ℕ}
 use mathlib.Core.List.{List, [], _∷_}
-use mathlib.Core.Bool.{Bool, false, not}
 use lib.ListN.{take}
-use lib.Dec.{eqb}
-use Rattle.wire.specs.Choice.{pick, both}
 use Rattle.rules.specs.declared.Settings.{Settings}
 use Rattle.rules.specs.declared.State.{State}
 use Rattle.rules.specs.declared.State.the-variants.{Idle}
 use Rattle.rules.specs.declared.Answer.{Answer}
 use Rattle.rules.specs.declared.Answer.the-variants.{Delivered, Stored, PassedBy, Refused}
-use Rattle.rules.specs.Check.{check}
-use Rattle.rules.specs.Step.{gapOf, Outcome, ours, stepOf}
+use Rattle.rules.specs.Step.{gapOf, Outcome, stepOf}
 
 -- ---- a row, given to the receiver
 pub data Event : Type 0 where
@@ -54,14 +50,3 @@ handedOver c h (section s) =
     let o : Outcome = stepOf c (h .state) s (h .buffer) in
     handedBy (o .step .answer) (o .buffer)
 handedOver c h gap = nothing
-
--- ---- the row alone, with no state kept
--- a sound section for another address, as demand 3 says in words
-unfoldable pub elsewhere : Settings → Event → Bool
-elsewhere c (section s) = both (eqb (check s) 0) (not (ours c s))
-elsewhere c gap = false
-
--- the row with the sound sections for other addresses struck out
-unfoldable pub strike : Settings → List Event → List Event
-strike c [] = []
-strike c (e ∷ r) = pick (elsewhere c e) (strike c r) (e ∷ strike c r)

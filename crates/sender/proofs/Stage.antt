@@ -12,8 +12,7 @@ use lib.Seq.{drop-drop, drop-length, length-paste, paste-zero, take-all, take-le
 use Rattle.rules.specs.declared.Settings.{Settings}
 use Rattle.rules.specs.Section.{sectionOf}
 use Rattle.rules.specs.Send.{piece, sectionAt, sectionCount, sections, sectionsTo}
-use Rattle.rules.specs.Demand2.{Accepted}
-use Rattle.rules.proofs.Send.{bytes-more, bytes-to, section-size, sections-bytes}
+use Rattle.rules.proofs.Send.{Accepted, bytes-more, bytes-to, section-size, sections-bytes}
 use Rattle.sender.specs.Puts.{Puts}
 use Rattle.sender.proofs.Puts.{puts-more}
 
