@@ -39,7 +39,7 @@ demand-1 =
           rw (p .sending, p .output) (sends (a .0) (a .1 .0) defaultPiece (now (a .1 .1 .0)) (now (a .1 .1 .1 .0)));
       fossknut-check = λ κs a z e p. rw p (check-means (now (a .0)));
       fossknut-receive = λ κs a z e p. (
-        _,
+        stepOf (receiveSettings κs a) (stateOf (receiveState κs a)) (receiveSection κs a) (receiveBuffer κs a) .step .state,
         p .state,
         rw (p .answer, p .unit, p .buffer) (steps (receiveSettings κs a) (stateOf (receiveState κs a)) (receiveSection κs a) (receiveBuffer κs a)),
       );

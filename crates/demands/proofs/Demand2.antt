@@ -23,11 +23,11 @@ use Rattle.demands.specs.Demand2.{Demand2, GivenBack, SentRight}
 use Rattle.demands.proofs.Demand3.{row-handed}
 
 -- the row that arrives by the rules is what the code hands over
-given-back : (c : Settings) (u bytes : List ℕ)
-    → ((b : List ℕ) → length u ≤ length b → Arrives c b (offers bytes) u) → 0 < length (offers bytes) → GivenBack c u bytes
-given-back c u bytes a some b h ds k g =
-    let is : ds ≡ handedRow c (fresh b) (map section (offers bytes)) = row-handed c (fresh b) (map section (offers bytes)) ds k g in
-    rw is (arrives-handed c b (offers bytes) u (a b h) some)
+given-back : (c : Settings) (u : List ℕ) (xs : List (List ℕ))
+    → ((b : List ℕ) → length u ≤ length b → Arrives c b xs u) → 0 < length xs → GivenBack c u xs
+given-back c u xs a some b h ds k g =
+    let is : ds ≡ handedRow c (fresh b) (map section xs) = row-handed c (fresh b) (map section xs) ds k g in
+    rw is (arrives-handed c b xs u (a b h) some)
 
 sent-right : (c : Settings) (flag : Bool) (size : ℕ) (u out : List ℕ) → let o : SendOutcome = sentOf c flag size u out in
     sendingNumber (o .sending) ≡ 0 → SentRight c flag size u out (sendingLength (o .sending)) (o .output)
@@ -48,8 +48,8 @@ sent-right c flag size u out h =
                 (take-all (length out) (flatten (sections c flag size u)) (g .accepted .room)));
           };
       offered = d .offered;
-      back = given-back c u (take n (o .output)) (d .arrives)
-          (omega (arith, ap length (d .offered), length-map (d .sections .values) table3, d .sections .cut .some));
+      back = given-back c u (map table3 (d .sections .values)) (d .arrives)
+          (omega (arith, length-map (d .sections .values) table3, d .sections .cut .some));
     }
 
 pub demand-2 : Demand2

@@ -20,18 +20,17 @@ use Rattle.demands.specs.Allowed.{Allowed}
 use Rattle.demands.specs.Contracts as contracts
 use Rattle.demands.specs.Demand3.{GivenRow}
 
--- cut as the listing cuts and given in order to the code, fresh and with room, the bytes give nothing at each section but the last, and the
--- unit at the last
-abbrev pub GivenBack : Settings → List ℕ → List ℕ → Type 0
-GivenBack c u bytes =
-    (b : List ℕ) → length u ≤ length b → (ds : List Handed) (h : Held) → GivenRow c (fresh b) (map section (offers bytes)) ds h
+-- given in order to the code, fresh and with room, the sections give nothing at each but the last, and the unit at the last
+abbrev pub GivenBack : Settings → List ℕ → List (List ℕ) → Type 0
+GivenBack c u xs =
+    (b : List ℕ) → length u ≤ length b → (ds : List Handed) (h : Held) → GivenRow c (fresh b) (map section xs) ds h
     → ds ≡ replicate (length ds - 1) nothing ++ (datagram (length u) u ∷ [])
 
 -- what is written: the sections, from the start of the output; cut as the listing cuts, they are these one by one; and they give the unit back
 pub record SentRight (c : Settings) (flag : Bool) (size : ℕ) (u out : List ℕ) (total : ℕ) (output : List ℕ) : Type 0 where
   pub written : Written c flag size u out total output
   pub offered : offers (written .bytes) ≡ map table3 (written .sections .values)
-  pub back : GivenBack c u (written .bytes)
+  pub back : GivenBack c u (map table3 (written .sections .values))
 
 pub record Demand2 : Type 0 where
   -- none of 12 to 19 applies exactly to what table 3 writes
