@@ -22,7 +22,7 @@ use Rattle.notification_rules.specs.declared.Notice.{Notice}
 use Rattle.notification_rules.specs.declared.Notice.the-variants.{Found, Nobody}
 use Rattle.notification_rules.specs.Cut.{Cut, isNil, any, placed}
 use Rattle.notification_rules.specs.Loop.{descriptorPieces, descriptorsOf, loopsOf, Pair, pairsOf}
-use Rattle.notification_rules.specs.Target.{addressNumber, sameUnder, inRange, covers, by, coverFrom, coverOf, isCover, Location, nowhere, at, located, isLocation, locationOf, answers, Choice, firstPair}
+use Rattle.notification_rules.specs.Target.{addressNumber, sameUnder, inRange, covers, by, coverFrom, coverOf, isCover, Location, nowhere, at, located, isLocation, locationOf, answers, firstPair}
 use Rattle.notification_rules.specs.Target as target
 use Rattle.notification_rules.specs.Notice.{found, chosen, searched, noticeNumber, noticeOf, noticePlace, partOf}
 use Rattle.notification_rules.specs.Format.{Descriptor, masked, ranges, location, other, Loop, Notification, tagOf, rangeWritten, bodyWritten, descriptorWritten, contentWritten, loopWritten, pairWritten, headWritten, notificationWritten, Held, Fits, FitsLoop, Conforms, deviceNumber, sameWhere, one, targets, covered, locationIn, locationTo, foundAt, foundNobody, answerTo, Gives, WrittenIsFound}
@@ -174,7 +174,8 @@ unfolding located placed locationIn pick partAt
 nine-is o [] = refl
 nine-is o (d ∷ ds) = go (eqb (tagOf d) 0x13) (nine-is (o + length (descriptorWritten d)) ds)
   where
-    go : (b : Bool) → partAt (located (placed (o + length (descriptorWritten d)) (map descriptorWritten ds))) ≡ locationIn (o + length (descriptorWritten d)) ds
+    go : (b : Bool)
+        → partAt (located (placed (o + length (descriptorWritten d)) (map descriptorWritten ds))) ≡ locationIn (o + length (descriptorWritten d)) ds
         → partAt (pick b (at (part o (descriptorWritten d))) (located (placed (o + length (descriptorWritten d)) (map descriptorWritten ds))))
         ≡ cond b (some (part (o + 2) (bodyWritten d))) (locationIn (o + length (descriptorWritten d)) ds)
     go true ih = refl
@@ -193,9 +194,9 @@ noticeAt : Option Part → Notice
 noticeAt none = Nobody
 noticeAt (some p) = Found (p .place)
 
-pair-is : (platform : Part) (c : Bool) (x : Pair) (l : Location) → locationOf platform x ≡ l → (later : Choice) (o : Option Part)
+pair-is : (platform : Part) (c : Bool) (x : Pair) (l : Location) → locationOf platform x ≡ l → (later : Option Pair) (o : Option Part)
     → chosen platform later ≡ noticeAt o
-    → chosen platform (pick (both c (isLocation l)) (target.one x) later) ≡ noticeAt (orElse (cond c (partAt l) none) o)
+    → chosen platform (pick (both c (isLocation l)) (some x) later) ≡ noticeAt (orElse (cond c (partAt l) none) o)
 unfolding chosen pick both isLocation found partAt noticeAt orElse
 pair-is platform true x nowhere e later o h = h
 pair-is platform true x (at d) e later o h = ap found e
@@ -204,7 +205,8 @@ pair-is platform false x (at d) e later o h = h
 
 search-is : (device : Address) (platform : Loop) → FitsLoop platform → (o : ℕ) (ps : List (Loop × Loop))
     → ((p : Loop × Loop) → List·Memᴰ p ps → FitsLoop (p .0) × FitsLoop (p .1))
-    → chosen (part 12 (loopWritten platform)) (firstPair (answers device (part 12 (loopWritten platform))) (pairsOf (placed o (map loopWritten (byTurns ps)))))
+    → chosen (part 12 (loopWritten platform))
+    (firstPair (answers device (part 12 (loopWritten platform))) (pairsOf (placed o (map loopWritten (byTurns ps)))))
     ≡ noticeAt (locationTo (deviceNumber device) (locationIn 14 (platform .descriptors)) o ps)
 unfolding byTurns placed pairsOf firstPair locationTo chosen answers locationOf noticeAt
 search-is device platform f o [] h = refl
@@ -259,7 +261,8 @@ module _ (s : List ℕ) where
   nine-stands o [] f t p e = absurd (let z : _≡_ {A = ℕ} 0 1 = cc in omega arith)
   nine-stands o (d ∷ ds) f t p e =
       go (eqb (tagOf d) 0x13) refl e
-      (nine-stands (o + length (descriptorWritten d)) ds (λ x m. f x (List·Memᴰ·tail m)) (stands-second s o (descriptorWritten d) (contentWritten ds) t) p)
+      (nine-stands (o + length (descriptorWritten d)) ds (λ x m. f x (List·Memᴰ·tail m))
+      (stands-second s o (descriptorWritten d) (contentWritten ds) t) p)
     where
       go : (b : Bool) → eqb (tagOf d) 0x13 ≡ b
           → cond b (some (part (o + 2) (bodyWritten d))) (locationIn (o + length (descriptorWritten d)) ds) ≡ some p
@@ -292,7 +295,8 @@ module _ (s : List ℕ) where
           p q
       here (inr q) = g p q
 
-      go : (cond (covered device (x .0 .descriptors)) (orElse (locationIn (o + length (loopWritten (x .0)) + 2) (x .1 .descriptors)) general) none ≡ some p)
+      go : (cond (covered device (x .0 .descriptors))
+          (orElse (locationIn (o + length (loopWritten (x .0)) + 2) (x .1 .descriptors)) general) none ≡ some p)
           ⊎ (locationTo device general (o + length (pairWritten x)) ps ≡ some p)
           → (locationTo device general (o + length (pairWritten x)) ps ≡ some p → Nine s p) → Nine s p
       go (inl q) ih = here (else-one _ general p (cond-one (covered device (x .0 .descriptors)) _ p q))

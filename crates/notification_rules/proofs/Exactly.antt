@@ -22,7 +22,8 @@ use Rattle.notification_rules.proofs.Found.{takes}
 use Rattle.notification_rules.proofs.Rewritten.{taken-is-written}
 
 -- ---- the numbers of the lines
-no-line : (n : ℕ) (s : List ℕ) → without n (faultLines notificationForm s ++ (platformLines s ++ loopLines s)) ≡ true → (n ≡ 0 → ⊥) → refusal s ≡ n → ⊥
+no-line : (n : ℕ) (s : List ℕ) → without n (faultLines notificationForm s ++ (platformLines s ++ loopLines s)) ≡ true
+    → (n ≡ 0 → ⊥) → refusal s ≡ n → ⊥
 unfolding refusal
 no-line n s h z = firstOf-without n (faultLines notificationForm s ++ (platformLines s ++ loopLines s)) h z
 
@@ -30,7 +31,8 @@ number-refused : (device : Address) (s : List ℕ) → (refusal s ≡ 0 → ⊥)
 unfolding noticeOf pick
 number-refused device s h = rw (ne-eqb (refusal s) 0 h)
 
-pub not-refused : (device : Address) (s : List ℕ) → (noticeNumber (noticeOf device s) ≡ 3) ⊎ (noticeNumber (noticeOf device s) ≡ 4) → refusal s ≡ 0
+pub not-refused : (device : Address) (s : List ℕ) → (noticeNumber (noticeOf device s) ≡ 3) ⊎ (noticeNumber (noticeOf device s) ≡ 4)
+    → refusal s ≡ 0
 unfolding without both faultLines formLines orderLines platformLines loopLines
 not-refused device s h = go (ℕ-discrete (refusal s) 0) h
   where
@@ -59,7 +61,8 @@ taken-exactly device s b = (
 )
 
 -- ---- any number but 3
-nothing : (device : Address) (s : List ℕ) (x : Notice) → noticeOf device s ≡ x → ((k : ℕ) → x ≡ Refused k → k ≡ 4 → ⊥) → Nothing device s (noticeNumber x)
+nothing : (device : Address) (s : List ℕ) (x : Notice) → noticeOf device s ≡ x → ((k : ℕ) → x ≡ Refused k → k ≡ 4 → ⊥)
+    → Nothing device s (noticeNumber x)
 nothing device s (Found p) e h = record { nobody = λ k. absurd (omega arith); refused = λ k. absurd (k refl) }
 nothing device s Nobody e h =
     record {

@@ -5,14 +5,14 @@ use mathlib.Core.Path.{_≡_, refl, sym, ap, _∙_}
 use mathlib.Core.Bool.{Bool, true, false}
 use mathlib.Core.Logic.{_⊎_, inl, inr}
 use mathlib.Core.List.{List, [], _∷_, _++_, List·Memᴰ, List·Memᴰ·not-nil, List·Memᴰ·cases-cons}
+use mathlib.Core.Option.{Option, none, some}
 use borrow.Author.Tests.{eq-eqb}
 use Rattle.wire.specs.Choice.{pick}
-use Rattle.wire.proofs.Choice.{never}
 use Rattle.rules.specs.declared.Address.{Address}
 use Rattle.wire.specs.Part.{Part}
 use Rattle.notification_rules.specs.declared.Notice.the-variants.{Refused}
 use Rattle.notification_rules.specs.Loop.{loopsOf, Pair, pairsOf}
-use Rattle.notification_rules.specs.Target.{Location, nowhere, at, locationOf, answers, Choice, none, one, firstPair}
+use Rattle.notification_rules.specs.Target.{Location, nowhere, at, locationOf, answers, firstPair}
 use Rattle.notification_rules.specs.Notice.{refusal, found, chosen, searched, noticeOf}
 
 -- ---- the first that passes a test
@@ -23,16 +23,12 @@ pub record First (f : Pair → Bool) (xs : List Pair) (x : Pair) : Type 0 where
   pub passed : (y : Pair) → List·Memᴰ y earlier → f y ≡ false
   pub passes : f x ≡ true
 
-pub first-is : (f : Pair → Bool) (xs : List Pair) (x : Pair) → firstPair f xs ≡ one x → First f xs x
+pub first-is : (f : Pair → Bool) (xs : List Pair) (x : Pair) → firstPair f xs ≡ some x → First f xs x
 unfolding firstPair pick
-first-is f [] x h = absurd (never (ap is-one h))
-  where
-    is-one : Choice → Bool
-    is-one none = false
-    is-one (one y) = true
+first-is f [] x h = absurd (let z : _≡_ {A = ℕ} 0 1 = cc in omega arith)
 first-is f (y ∷ ys) x h = go (f y) refl h (first-is f ys x)
   where
-    go : (b : Bool) → f y ≡ b → pick b (one y) (firstPair f ys) ≡ one x → (firstPair f ys ≡ one x → First f ys x)
+    go : (b : Bool) → f y ≡ b → pick b (some y) (firstPair f ys) ≡ some x → (firstPair f ys ≡ some x → First f ys x)
         → First f (y ∷ ys) x
     go true e h ih =
         let q : y ≡ x = cc in
@@ -73,9 +69,9 @@ unfolding searched chosen
 searched-takes device [] k h = let z : _≡_ {A = ℕ} 0 1 = cc in omega arith
 searched-takes device (platform ∷ loops) k h = go (firstPair (answers device platform) (pairsOf loops)) h
   where
-    go : (c : Choice) → chosen platform c ≡ Refused k → ⊥
+    go : (c : Option Pair) → chosen platform c ≡ Refused k → ⊥
     go none h = let z : _≡_ {A = ℕ} 0 1 = cc in omega arith
-    go (one x) h = found-takes (locationOf platform x) k h
+    go (some x) h = found-takes (locationOf platform x) k h
 
 pub takes : (device : Address) (s : List ℕ) → refusal s ≡ 0 → (k : ℕ) → noticeOf device s ≡ Refused k → ⊥
 takes device s h k e = searched-takes device (loopsOf s) k (sym (unrefused device s h) ∙ e)

@@ -1,4 +1,5 @@
 pub mod Answered
+pub mod Bytes
 pub mod Cuts
 pub mod Entries
 pub mod Exactly

@@ -5,6 +5,7 @@ use mathlib.Core.Path.{_≡_, refl, sym, ap, _∙_}
 use mathlib.Core.Logic.{_↔_, _≢_, inl, inr}
 use mathlib.Core.Bool.{Bool, true, false, not}
 use mathlib.Core.List.{List, [], _∷_, _++_, map, List·Memᴰ, List·Memᴰ·head, List·Memᴰ·tail}
+use mathlib.Core.Option.{Option, none, some}
 use lib.ListN.{length}
 use lib.Bits.{bitXor}
 use lib.Dec.{eqb, leb}
@@ -23,10 +24,10 @@ use Rattle.notification_rules.specs.declared.Notice.{Notice}
 use Rattle.notification_rules.specs.declared.Notice.the-variants.{Found, Nobody, Refused}
 use Rattle.notification_rules.specs.Cut.{Cut, cutOf, every}
 use Rattle.notification_rules.specs.Format.{answerTo, Written, bodyWritten, Descriptor, descriptorWritten, Loop, loopWritten, tagOf}
-use Rattle.notification_rules.specs.Loop.{actionType, bodyLength, content, loopCut, loopsOf, loopSize, pairsOf, platformIdHash, tag}
+use Rattle.notification_rules.specs.Loop.{actionType, bodyLength, content, loopCut, loopsOf, loopSize, Pair, pairsOf, platformIdHash, tag}
 use Rattle.notification_rules.specs.Meaning.{Filled, Finds, HoldsOther, NotificationMeans, OtherLength, Short}
 use Rattle.notification_rules.specs.Notice.{chosen, found, known, loopLines, misfit, noticeNumber, noticeOf, notificationForm, otherAction, otherLength, platformLines, refusal, searched, wrongHash}
-use Rattle.notification_rules.specs.Target.{answers, at, Choice, firstPair, Location, locationOf, none, nowhere, one, rightLength}
+use Rattle.notification_rules.specs.Target.{answers, at, firstPair, Location, locationOf, nowhere, rightLength}
 use Rattle.notification_rules.proofs.Answered.{written-is-found}
 use Rattle.notification_rules.proofs.Parts.{every-one}
 use Rattle.notification_rules.proofs.Rewritten.{filled-exactly, taken-is-written}
@@ -197,10 +198,10 @@ unfolding isFound found first
 found-number nowhere = refl
 found-number (at d) = refl
 
-chosen-number : (platform : Part) (x : Choice) → noticeNumber (chosen platform x) ≡ first (isFound (chosen platform x)) 3 4
+chosen-number : (platform : Part) (x : Option Pair) → noticeNumber (chosen platform x) ≡ first (isFound (chosen platform x)) 3 4
 unfolding isFound chosen first
 chosen-number platform none = refl
-chosen-number platform (one x) = found-number (locationOf platform x)
+chosen-number platform (some x) = found-number (locationOf platform x)
 
 searched-number : (device : Address) (ls : List Part) → noticeNumber (searched device ls) ≡ first (isFound (searched device ls)) 3 4
 unfolding isFound searched first
@@ -236,7 +237,8 @@ module _ (device : Address) (s : List ℕ) (b : Bytes s) where
         λ w. three-found sought (searched-number device (loopsOf s)) (number (w .written) ∙ w .found),
       )
 
-  nothing-refused : fault notificationForm s ≡ 0 → otherAction s ≡ false → wrongHash s ≡ false → misfit s ≡ false → otherLength s ≡ false → refusal s ≡ 0
+  nothing-refused : fault notificationForm s ≡ 0 → otherAction s ≡ false → wrongHash s ≡ false → misfit s ≡ false → otherLength s ≡ false
+      → refusal s ≡ 0
   unfolding refusal fault platformLines loopLines firstOf
   nothing-refused h e30 e31 e32 e33 =
       firstOf-past (faultLines notificationForm s) _ (fault-numbered notificationForm s) h

@@ -24,7 +24,8 @@ one-member good x h y m = go (List·Memᴰ·cases-cons m)
     go (inr n) = absurd (List·Memᴰ·not-nil n)
 
 -- the target loop's descriptors and the length are what is left to see
-conforms : (ds : List Descriptor) → ((d : Descriptor) → List·Memᴰ d ds → Fits d) → length (notificationWritten (sample ds)) ≤ 4096 → Conforms (sample ds)
+conforms : (ds : List Descriptor) → ((d : Descriptor) → List·Memᴰ d ds → Fits d) → length (notificationWritten (sample ds)) ≤ 4096
+    → Conforms (sample ds)
 unfolding bodyWritten bytesOf
 conforms ds f l =
     record {

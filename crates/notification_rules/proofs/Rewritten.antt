@@ -1,4 +1,4 @@
--- What is taken is what table 13 writes: each descriptor, each loop and the first 12 bytes are read as values, and written they are the same bytes.
+-- What is taken is what table 13 writes: each descriptor, each loop and the first 12 bytes are read as values, and these write the same bytes.
 use Prim.Native.Nat.{ℕ, zero, suc, _+_, _*_, _-_, _/_, _%_, _^_, _≤_, _<_}
 use native.Mathlib.Nat.{div-div-eq-div-mul, suc-mul}
 use native.Mathlib.Decide.{decLt, ℕ-discrete}
@@ -414,7 +414,8 @@ versionByte x hx h0 =
     let top : x / 64 % 4 ≡ x / 64 = omega arith in
     rw top (omega arith)
 
-three : (x y z : ℕ) → x < 256 → y < 256 → z < 256 → (bits 23 16 (x * 65536 + (y * 256 + z)) ≡ x) × (bits 15 8 (x * 65536 + (y * 256 + z)) ≡ y) × (bits 7 0 (x * 65536 + (y * 256 + z)) ≡ z)
+three : (x y z : ℕ) → x < 256 → y < 256 → z < 256
+    → (bits 23 16 (x * 65536 + (y * 256 + z)) ≡ x) × (bits 15 8 (x * 65536 + (y * 256 + z)) ≡ y) × (bits 7 0 (x * 65536 + (y * 256 + z)) ≡ z)
 three x y z hx hy hz =
     let a : (x * 65536 + (y * 256 + z)) / 65536 ≡ x = omega arith in
     let b : (x * 65536 + (y * 256 + z)) / 256 ≡ x * 256 + y = omega arith in

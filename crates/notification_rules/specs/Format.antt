@@ -26,8 +26,8 @@ pub record StreamLocation : Type 0 where
   pub serviceId : ℕ
   pub componentTag : ℕ
 
--- 0x07, table 24: MAC_addr_mask and MAC_addr, any number; 0x0E, table 25: MAC_addr_low and MAC_addr_high, any number; 0x13; any other tag, and bytes.
--- An address is a number of 48 bits
+-- 0x07, table 24: MAC_addr_mask, and MAC_addr any number of times; 0x0E, table 25: MAC_addr_low with MAC_addr_high any number of times;
+-- 0x13, table 32; any other tag, and bytes. An address is a number of 48 bits
 pub data Descriptor : Type 0 where
   masked : ℕ → List ℕ → Descriptor
   ranges : List (ℕ × ℕ) → Descriptor
@@ -90,7 +90,8 @@ pairWritten p = loopWritten (p .0) ++ loopWritten (p .1)
 abbrev pub loopsWritten : Loop → List (Loop × Loop) → List ℕ
 loopsWritten platform pairs = loopWritten platform ++ flatten (map pairWritten pairs)
 
--- the first 12 bytes: section_syntax_indicator and current_next_indicator are ones, action_type is 0x01, platform_id_hash the XOR of platform_id's bytes
+-- the first 12 bytes: section_syntax_indicator and current_next_indicator are ones, action_type is 0x01, and platform_id_hash is the XOR of
+-- platform_id's bytes
 unfoldable pub headWritten : Notification → ℕ → List ℕ
 headWritten n sectionLength =
     0x4C
@@ -118,7 +119,8 @@ abbrev pub Held : Descriptor → Type 0
 Held (masked mask xs) = (mask < 2 ^ 48) × ((a : ℕ) → List·Memᴰ a xs → a < 2 ^ 48)
 Held (ranges rs) = (r : ℕ × ℕ) → List·Memᴰ r rs → (r .0 < 2 ^ 48) × (r .1 < 2 ^ 48)
 Held (location l) =
-    (l .networkId < 2 ^ 16) × (l .originalNetworkId < 2 ^ 16) × (l .transportStreamId < 2 ^ 16) × (l .serviceId < 2 ^ 16) × (l .componentTag < 2 ^ 8)
+    (l .networkId < 2 ^ 16) × (l .originalNetworkId < 2 ^ 16) × (l .transportStreamId < 2 ^ 16) × (l .serviceId < 2 ^ 16)
+    × (l .componentTag < 2 ^ 8)
 Held (other t b) = (t < 2 ^ 8) × ((t ≢ 0x07) × (t ≢ 0x0E) × (t ≢ 0x13)) × Bytes b
 
 pub record Fits (d : Descriptor) : Type 0 where
@@ -187,7 +189,8 @@ unfoldable pub locationTo : ℕ → Option Part → ℕ → List (Loop × Loop) 
 locationTo device platform o [] = none
 locationTo device platform o (p ∷ ps) =
     orElse
-    (cond (covered device (p .0 .descriptors)) (orElse (locationIn (o + length (loopWritten (p .0)) + 2) (p .1 .descriptors)) platform) none)
+    (cond (covered device (p .0 .descriptors))
+    (orElse (locationIn (o + length (loopWritten (p .0)) + 2) (p .1 .descriptors)) platform) none)
     (locationTo device platform (o + length (pairWritten p)) ps)
 
 -- ---- what a device is answered: a notice, its number, and a part of the section
@@ -224,6 +227,10 @@ pub record Gives (device : Address) (s : List ℕ) (x : Answer) : Type 0 where
 -- what is written is answered as its pairs say
 abbrev pub WrittenIsFound : Type 0
 WrittenIsFound = (device : Address) (n : Notification) → Conforms n → Gives device (notificationWritten n) (answerTo device n)
+
+-- and is a list of bytes
+abbrev pub SectionIsBytes : Type 0
+SectionIsBytes = (n : Notification) → Conforms n → Bytes (notificationWritten n)
 
 -- what table 13 writes is taken, and only that
 abbrev pub TakenExactly : Type 0

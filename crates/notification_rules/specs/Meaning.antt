@@ -1,5 +1,5 @@
--- What each number means, in document 01's order and words: 'The INT section'. By bytes, bits, lengths and what table 13 writes, with none of
--- the reader's own tests. A theorem, shown in proofs/Meaning.antt.
+-- What each number means, in document 01's order and words: 'The INT section'. By bytes, bits, lengths and what table 13 writes, with none
+-- of the reader's own tests. A theorem, shown in proofs/Meaning.antt.
 use Prim.Native.Nat.{ℕ, _+_, _*_, _-_, _^_, _<_}
 use mathlib.Core.Path.{_≡_}
 use mathlib.Core.Logic.{_↔_, _≢_, _⊎_}
