@@ -2,12 +2,11 @@
 use Prim.Native.Nat.{ℕ, _+_}
 use native.Mathlib.Decide.{ℕ-discrete}
 use native.Mathlib.Omega.{arith}
-use mathlib.Core.Path.{_≡_, refl, sym, ap, _∙_}
+use mathlib.Core.Path.{_≡_, refl, sym, _∙_}
 use mathlib.Core.Logic.{_⊎_, inl, inr}
 use mathlib.Core.List.{List, [], _∷_, _++_}
 use mathlib.Core.Bool.{Bool, true, false, not}
 use lib.ListN.{length}
-use lib.Seq.{slice}
 use lib.Dec.{eqb, leb, ltb}
 use borrow.Author.Tests.{eq-eqb, ne-eqb, leb-true, leb-false, le-ltb, lt-ltb}
 use denote.Ref.{now}
@@ -18,18 +17,12 @@ use Rattle.rules.specs.declared.State.{State}
 use Rattle.rules.specs.declared.State.the-variants.{Open}
 use Rattle.rules.specs.declared.Answer.the-variants.{Delivered, PassedBy, Stored}
 use Rattle.rules.specs.Check.{check, checkLines, faultLines, formLines, orderLines}
-use Rattle.rules.specs.declared.Address.{Address}
-use Rattle.notification_rules.specs.declared.Notice.the-variants.{Refused as NoticeRefused}
-use Rattle.notification_rules.specs.declared.Notice.{Notice}
-use Rattle.notification_rules.specs.Notice.{noticeNumber, noticeOf, noticePlace, partOf, refusal}
-use Rattle.pes_rules.specs.declared.Reading.{Reading}
-use Rattle.pes_rules.specs.Packet.{fault as pesFault, readOf, refused as pesRefused}
 use Rattle.rules.specs.Send.{defaultPiece, sentOf}
 use Rattle.rules.proofs.Send.{sent-is, unsent-is}
 use Rattle.rules.specs.Section.{lastSectionNumber, payload, sectionNumber}
 use Rattle.rules.specs.Step.{barLines, finish, From, gapOf, goodSettings, goodState, keep, keyOf, laid, lay, Nowhere, ours, Outcome, outcome, Place, place, refuse, refuseFirst, room, stepOf}
 use Rattle.numbers.specs.Numbers.{stateOf}
-use Rattle.demands.specs.Abroad.{defaultFlag, defaultOutput, defaultSettings, defaultUnit, deviceGiven, receiveBuffer, receiveSection, receiveSettings, receiveState, sectionGiven, sendFlag, sendOutput, sendSettings, sendSize, sendUnit}
+use Rattle.demands.specs.Abroad.{defaultFlag, defaultOutput, defaultSettings, defaultUnit, receiveBuffer, receiveSection, receiveSettings, receiveState, sendFlag, sendOutput, sendSettings, sendSize, sendUnit}
 use Rattle.demands.specs.Demand1.{ByTable, Demand1, nowhere, overfull, SendByLines, StepByTable, tableOf}
 
 -- ---- a part of the table
@@ -98,16 +91,6 @@ step-by-table c σ s b =
 sent-by-lines : (c : Settings) (flag : Bool) (n : ℕ) (u out : List ℕ) → SendByLines c flag n u out (sentOf c flag n u out)
 sent-by-lines c flag n u out = record { refused = unsent-is c flag n u out; sent = sent-is c flag n u out }
 
--- ---- the PES reader
-pes-by-lines : (s : List ℕ) → (pesFault s ≡ 0 → ⊥) → readOf s ≡ pesRefused (pesFault s)
-unfolding readOf pick
-pes-by-lines s h = rw (ne-eqb (pesFault s) 0 h)
-
--- ---- the INT reader
-pub notice-by-lines : (device : Address) (s : List ℕ) → (refusal s ≡ 0 → ⊥) → noticeOf device s ≡ NoticeRefused (refusal s)
-unfolding noticeOf pick
-notice-by-lines device s h = rw (ne-eqb (refusal s) 0 h)
-
 -- ---- the contracts
 pub demand-1 : Demand1
 unfolding check gapOf
@@ -120,12 +103,6 @@ demand-1 =
           rw (p .sending, p .output) (sent-by-lines (a .0) (a .1 .0) (a .1 .1 .0) (now (a .1 .1 .1 .0)) (now (a .1 .1 .1 .1 .0)));
       send-by-default = λ κs a z e p.
           rw (p .sending, p .output) (sent-by-lines (a .0) (a .1 .0) defaultPiece (now (a .1 .1 .0)) (now (a .1 .1 .1 .0)));
-      notice = λ κs a z e p h. p ∙ notice-by-lines (a .0) (now (a .1 .0)) h;
-      notification-read = λ κs a z e p h.
-          let q = notice-by-lines (a .0) (now (a .1 .0)) h in
-          (p .number ∙ ap noticeNumber q, p .part .bytes ∙ ap (λ (n : Notice). partOf (now (a .1 .0)) n .bytes) q);
-      pes-read = λ κs a z e p h. p ∙ pes-by-lines (now (a .0)) h;
-      pes-data = λ κs a z e p h. p .bytes ∙ ap (λ (r : Reading). slice (r .start) (r .end) (now (a .0))) (pes-by-lines (now (a .0)) h);
       fossknut-check = λ κs a z e p. p;
       fossknut-receive = λ κs a z e p.
           (_, step-by-table (receiveSettings κs a) (stateOf (receiveState κs a)) (receiveSection κs a) (receiveBuffer κs a), p);
@@ -134,8 +111,4 @@ demand-1 =
           (_, sent-by-lines (sendSettings κs a) (sendFlag κs a) (sendSize κs a) (sendUnit κs a) (sendOutput κs a), p);
       fossknut-send-by-default = λ κs a z e p.
           (_, sent-by-lines (defaultSettings κs a) (defaultFlag κs a) defaultPiece (defaultUnit κs a) (defaultOutput κs a), p);
-      fossknut-notification = λ κs a z e p h.
-          let q = notice-by-lines (deviceGiven κs a) (sectionGiven κs a) h in
-          (p .number ∙ ap noticeNumber q, p .place ∙ ap noticePlace q);
-      fossknut-pes = λ κs a z e p h. rw (← pes-by-lines (now (a .0)) h) p;
     }

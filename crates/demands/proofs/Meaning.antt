@@ -7,11 +7,8 @@ use Rattle.rules.specs.declared.Step.{Step}
 use Rattle.rules.specs.Send.{defaultPiece, sendingNumber}
 use Rattle.rules.specs.Step.{numberOf}
 use Rattle.rules.proofs.Meaning.{check-means, receiver-means, sender-means}
-use Rattle.notification_rules.proofs.Meaning.{notification-means}
-use Rattle.pes_rules.specs.declared.Reading.{Reading}
-use Rattle.pes_rules.proofs.Meaning.{packet-means}
 use Rattle.numbers.specs.Numbers.{stateOf}
-use Rattle.demands.specs.Abroad.{defaultFlag, defaultOutput, defaultSettings, defaultUnit, deviceGiven, receiveBuffer, receiveSection, receiveSettings, receiveState, sectionGiven, sendFlag, sendOutput, sendSettings, sendSize, sendUnit}
+use Rattle.demands.specs.Abroad.{defaultFlag, defaultOutput, defaultSettings, defaultUnit, receiveBuffer, receiveSection, receiveSettings, receiveState, sendFlag, sendOutput, sendSettings, sendSize, sendUnit}
 use Rattle.demands.specs.Meaning.{Means}
 
 -- what is equal to the rules' number has its meaning
@@ -28,8 +25,6 @@ means =
           by (ap sendingNumber (p .sending)) (sender-means (a .0) (a .1 .0) (a .1 .1 .0) (now (a .1 .1 .1 .0)) (now (a .1 .1 .1 .1 .0)) n);
       send-by-default = λ κs a z e p n.
           by (ap sendingNumber (p .sending)) (sender-means (a .0) (a .1 .0) defaultPiece (now (a .1 .1 .0)) (now (a .1 .1 .1 .0)) n);
-      notification-read = λ κs a z e p b n. by (p .number) (notification-means (a .0) (now (a .1 .0)) b n);
-      pes-read = λ κs a z e p n. by (ap (λ (x : Reading). x .answer) p) (packet-means (now (a .0)) n);
       fossknut-check = λ κs a z e p n. by p (check-means (now (a .0)) n);
       fossknut-receive = λ κs a z e p n.
           by (p .answer) (receiver-means (receiveSettings κs a) (stateOf (receiveState κs a)) (receiveSection κs a) (receiveBuffer κs a) n);
@@ -37,6 +32,4 @@ means =
           by (p .number) (sender-means (sendSettings κs a) (sendFlag κs a) (sendSize κs a) (sendUnit κs a) (sendOutput κs a) n);
       fossknut-send-by-default = λ κs a z e p n.
           by (p .number) (sender-means (defaultSettings κs a) (defaultFlag κs a) defaultPiece (defaultUnit κs a) (defaultOutput κs a) n);
-      fossknut-notification = λ κs a z e p b n. by (p .number) (notification-means (deviceGiven κs a) (sectionGiven κs a) b n);
-      fossknut-pes = λ κs a z e p n. by (p .answer) (packet-means (now (a .0)) n);
     }

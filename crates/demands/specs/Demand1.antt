@@ -15,15 +15,12 @@ use Rattle.rules.specs.declared.State.the-variants.{Idle}
 use Rattle.rules.specs.declared.Answer.the-variants.{Delivered, PassedBy, Refused, Stored}
 use Rattle.rules.specs.declared.Sending.the-variants.{Unsent}
 use Rattle.rules.specs.Check.{checkLines}
-use Rattle.notification_rules.specs.declared.Notice.the-variants.{Refused as NoticeRefused}
-use Rattle.notification_rules.specs.Notice.{refusal}
-use Rattle.pes_rules.specs.Packet.{fault as pesFault, refused as pesRefused}
 use Rattle.rules.specs.Section.{payload}
 use Rattle.rules.specs.Send.{defaultPiece, sendLines, SendOutcome, written}
 use Rattle.rules.specs.Step.{barLines, From, goodSettings, goodState, Nowhere, ours, Outcome, outcome, Place, place, room}
 use Rattle.numbers.specs.Numbers.{numbersOf, stateOf}
-use Rattle.exports.specs.Given.{Given, Gives, Told}
-use Rattle.demands.specs.Abroad.{defaultFlag, defaultOutput, defaultSettings, defaultUnit, gappedState, lengthByDefault, placeTold, receiveBuffer, receivedBuffer, receivedLength, receivedState, receiveSection, receiveSettings, receiveState, sectionGiven, sendFlag, sendOutput, sendSettings, sendSize, sendUnit, sentByDefault, sentLength, sentOutput}
+use Rattle.exports.specs.Given.{Given, Gives}
+use Rattle.demands.specs.Abroad.{defaultFlag, defaultOutput, defaultSettings, defaultUnit, gappedState, lengthByDefault, receiveBuffer, receivedBuffer, receivedLength, receivedState, receiveSection, receiveSettings, receiveState, sendFlag, sendOutput, sendSettings, sendSize, sendUnit, sentByDefault, sentLength, sentOutput}
 use Rattle.demands.specs.Allowed.{Allowed}
 use Rattle.demands.specs.Contracts as contracts
 
@@ -85,18 +82,6 @@ pub record Demand1 : Type 0 where
   pub send-by-default : Allowed contracts.send-by-default
       (λ κs a z e. SendByLines (a .0) (a .1 .0) defaultPiece (now (a .1 .1 .0)) (now (a .1 .1 .1 .0))
       (record { sending = z; output = now (e .1 .1 .1 .0) }))
-  -- the INT reader: a refusal gives the first of 12 to 18 and 30 to 33 that applies
-  pub notice : Allowed contracts.notice
-      (λ κs a z e. (refusal (now (a .1 .0)) ≡ 0 → ⊥) → z ≡ NoticeRefused (refusal (now (a .1 .0))))
-  -- and hands back no byte of the section
-  pub notification-read : Allowed contracts.notification-read
-      (λ κs a z e. (refusal (now (a .1 .0)) ≡ 0 → ⊥) → (now (e .1 .1 .0) ≡ refusal (now (a .1 .0))) × (now z ≡ []))
-  -- the PES reader: a refusal gives the first of 40 to 43 that applies, and zeros
-  pub pes-read : Allowed contracts.pes-read
-      (λ κs a z e. (pesFault (now (a .0)) ≡ 0 → ⊥) → z ≡ pesRefused (pesFault (now (a .0))))
-  -- and no byte of the packet
-  pub pes-data : Allowed contracts.pes-data
-      (λ κs a z e. (pesFault (now (a .0)) ≡ 0 → ⊥) → now z ≡ [])
   -- the exported functions: what a foreign caller is given are the numbers of an outcome by the table
   pub fossknut-check : Allowed contracts.fossknut-check
       (λ κs a z e. z ≡ firstOf (checkLines (now (a .0))))
@@ -114,9 +99,3 @@ pub record Demand1 : Type 0 where
       (λ κs a z e. (o : SendOutcome)
       × SendByLines (defaultSettings κs a) (defaultFlag κs a) defaultPiece (defaultUnit κs a) (defaultOutput κs a) o
       × Gives o z (lengthByDefault κs e) (sentByDefault κs e))
-  pub fossknut-notification : Allowed contracts.fossknut-notification
-      (λ κs a z e. (refusal (sectionGiven κs a) ≡ 0 → ⊥) → (z ≡ refusal (sectionGiven κs a)) × (placeTold κs e ≡ 0))
-  pub fossknut-pes : Allowed contracts.fossknut-pes
-      (λ κs a z e. (pesFault (now (a .0)) ≡ 0 → ⊥)
-      → Told (pesRefused (pesFault (now (a .0)))) z (now (e .1 .0)) (now (e .1 .1 .0)) (now (e .1 .1 .1 .0)) (now (e .1 .1 .1 .1 .0))
-      (now (e .1 .1 .1 .1 .1 .0)) (now (e .1 .1 .1 .1 .1 .1 .0)))

@@ -3,6 +3,7 @@ pub mod Allowed
 pub mod Contracts
 pub mod Demand1
 pub mod Meaning
+pub mod Readers
 pub mod Right
 pub mod Rows
 pub mod Samples

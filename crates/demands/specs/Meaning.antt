@@ -1,18 +1,15 @@
 -- The number that each open function answers with is that of the first row of the paper's table that applies. The tables are in specs/Meaning.antt
--- of rules, notification_rules and pes_rules; here they speak of the real contracts.
+-- of rules; here they speak of the real contracts. Those of the INT and PES readers are in Readers.antt.
 use Prim.Native.Nat.{ℕ}
 use mathlib.Core.Path.{_≡_}
 use mathlib.Core.Logic.{_↔_}
 use denote.Ref.{now}
-use Rattle.wire.specs.Bytes.{Bytes}
 use Rattle.wire.specs.Meaning.{FirstThat}
 use Rattle.rules.specs.Meaning.{checkRows, receiverRows, senderRows}
 use Rattle.rules.specs.Send.{defaultPiece, sendingNumber}
 use Rattle.rules.specs.Step.{numberOf}
-use Rattle.notification_rules.specs.Meaning.{notificationRows}
-use Rattle.pes_rules.specs.Meaning.{packetRows}
 use Rattle.numbers.specs.Numbers.{stateOf}
-use Rattle.demands.specs.Abroad.{defaultOutput, defaultSettings, defaultUnit, deviceGiven, receiveBuffer, receiveSection, receiveSettings, receiveState, sectionGiven, sendOutput, sendSettings, sendSize, sendUnit}
+use Rattle.demands.specs.Abroad.{defaultOutput, defaultSettings, defaultUnit, receiveBuffer, receiveSection, receiveSettings, receiveState, sendOutput, sendSettings, sendSize, sendUnit}
 use Rattle.demands.specs.Allowed.{Allowed}
 use Rattle.demands.specs.Contracts as contracts
 
@@ -25,10 +22,6 @@ pub record Means : Type 0 where
       (λ κs a z e. (n : ℕ) → (sendingNumber z ≡ n) ↔ FirstThat n (senderRows (a .0) (a .1 .1 .0) (now (a .1 .1 .1 .0)) (now (a .1 .1 .1 .1 .0))))
   pub send-by-default : Allowed contracts.send-by-default
       (λ κs a z e. (n : ℕ) → (sendingNumber z ≡ n) ↔ FirstThat n (senderRows (a .0) defaultPiece (now (a .1 .1 .0)) (now (a .1 .1 .1 .0))))
-  pub notification-read : Allowed contracts.notification-read
-      (λ κs a z e. Bytes (now (a .1 .0)) → (n : ℕ) → (now (e .1 .1 .0) ≡ n) ↔ FirstThat n (notificationRows (a .0) (now (a .1 .0))))
-  pub pes-read : Allowed contracts.pes-read
-      (λ κs a z e. (n : ℕ) → (z .answer ≡ n) ↔ FirstThat n (packetRows (now (a .0))))
   -- the exported functions
   pub fossknut-check : Allowed contracts.fossknut-check
       (λ κs a z e. (n : ℕ) → (z ≡ n) ↔ FirstThat n (checkRows (now (a .0))))
@@ -39,7 +32,3 @@ pub record Means : Type 0 where
       (λ κs a z e. (n : ℕ) → (z ≡ n) ↔ FirstThat n (senderRows (sendSettings κs a) (sendSize κs a) (sendUnit κs a) (sendOutput κs a)))
   pub fossknut-send-by-default : Allowed contracts.fossknut-send-by-default
       (λ κs a z e. (n : ℕ) → (z ≡ n) ↔ FirstThat n (senderRows (defaultSettings κs a) defaultPiece (defaultUnit κs a) (defaultOutput κs a)))
-  pub fossknut-notification : Allowed contracts.fossknut-notification
-      (λ κs a z e. Bytes (sectionGiven κs a) → (n : ℕ) → (z ≡ n) ↔ FirstThat n (notificationRows (deviceGiven κs a) (sectionGiven κs a)))
-  pub fossknut-pes : Allowed contracts.fossknut-pes
-      (λ κs a z e. (n : ℕ) → (z ≡ n) ↔ FirstThat n (packetRows (now (a .0))))
