@@ -4,5 +4,6 @@ pub mod Abroad
 pub mod Demand1
 pub mod Demand2
 pub mod Demand3
+pub mod Readers
 pub mod Samples
 pub mod Tight
