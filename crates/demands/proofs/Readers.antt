@@ -25,7 +25,7 @@ use Rattle.pes_rules.proofs.Written.{written-is-read}
 use Rattle.numbers.specs.Numbers.{flagNumber}
 use Rattle.exports.specs.Given.{Told}
 use Rattle.demands.specs.Abroad.{deviceGiven, sectionGiven}
-use Rattle.demands.specs.Readers.{Notices, numbers, packetNumbers, Packets, Readers}
+use Rattle.demands.specs.Readers.{Notices, packetNumbers, Packets, Readers}
 
 -- what is equal to the rules' number has its meaning
 by : {m z n : ℕ} {p : Type 0} → z ≡ m → (m ≡ n) ↔ p → (z ≡ n) ↔ p
@@ -72,7 +72,16 @@ data-count s =
 -- what a foreign caller is given of an outcome is what a reading and its data have
 given : {s : List ℕ} {r : Reading} {p : Part} {z extended rated extension rate start count : ℕ}
     → Told (readOf s) z extended rated extension rate start count → GivesPacket s r p
-    → numbers z extended rated extension rate start count ≡ packetNumbers r p
+    → record {
+      answer = z;
+      extended = extended;
+      rated = rated;
+      extension = extension;
+      rate = rate;
+      start = start;
+      count = count;
+    }
+    ≡ packetNumbers r p
 given {s = s} t g =
     rw (t .answer, t .extended, t .rated, t .extension, t .rate, t .start, t .length)
     (rw (flag-number (readOf s .extended), flag-number (readOf s .rated), ← data-count s) (ap₂ packetNumbers (g .reading) (g .given)))

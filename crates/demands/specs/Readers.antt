@@ -56,17 +56,29 @@ pub record PacketNumbers : Type 0 where
   pub start : ℕ
   pub count : ℕ
 
-abbrev pub numbers : ℕ → ℕ → ℕ → ℕ → ℕ → ℕ → ℕ → PacketNumbers
-numbers z e d x v p n = record { answer = z; extended = e; rated = d; extension = x; rate = v; start = p; count = n }
-
 abbrev pub packetNumbers : Reading → Part → PacketNumbers
 packetNumbers r p =
-    numbers (r .answer) (cond (r .extended) 1 0) (cond (r .rated) 1 0) (r .extension) (r .rate) (p .place) (length (p .bytes))
+    record {
+      answer = r .answer;
+      extended = cond (r .extended) 1 0;
+      rated = cond (r .rated) 1 0;
+      extension = r .extension;
+      rate = r .rate;
+      start = p .place;
+      count = length (p .bytes);
+    }
 
 abbrev pub numbersGiven : (κs : Lfts 7) → ℕ → Exit contracts.fossknut-pes κs → PacketNumbers
 numbersGiven κs z e =
-    numbers z (now (e .1 .0)) (now (e .1 .1 .0)) (now (e .1 .1 .1 .0)) (now (e .1 .1 .1 .1 .0)) (now (e .1 .1 .1 .1 .1 .0))
-    (now (e .1 .1 .1 .1 .1 .1 .0))
+    record {
+      answer = z;
+      extended = now (e .1 .0);
+      rated = now (e .1 .1 .0);
+      extension = now (e .1 .1 .1 .0);
+      rate = now (e .1 .1 .1 .1 .0);
+      start = now (e .1 .1 .1 .1 .1 .0);
+      count = now (e .1 .1 .1 .1 .1 .1 .0);
+    }
 
 -- ---- what the contracts of the code allow
 pub record Readers : Type 0 where
