@@ -144,7 +144,7 @@ turned-finish {b = b} {o = o} c w h s e f a =
 pub gave-owed : {o text : List ℕ} {r : Walk} (c : Settings) (w : Walk) (u rest : List ℕ) → Gave w o text r
     → owed c w o u rest ≡ text ++ owed c r o u rest
 unfolding owed
-gave-owed c w u rest g = rw (g .all, g .out, g .stays .offset, g .stays .state)
+gave-owed c w u rest g = rw (g .given, g .out, g .stays .offset, g .stays .state)
 
 pub turned-flush : {b o u : List ℕ} {r : Walk} (c : Settings) (w : Walk) → w .done ≡ false → full w (length o) ≡ true
     → Gave w o (take (w .out) o) r → Turned c w b o u r b o u

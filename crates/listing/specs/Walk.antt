@@ -80,7 +80,7 @@ full w n = ltb (n - w .out) 63
 
 -- a write is given `text`, all that the output's buffer o holds; it may fail
 pub record Gave (w : Walk) (o text : List ℕ) (r : Walk) : Type 0 where
-  pub all : text ≡ take (w .out) o
+  pub given : text ≡ take (w .out) o
   pub out : r .out ≡ 0
   pub done : r .done ≡ w .done
   pub stays : Stays w r
