@@ -104,6 +104,10 @@ macro_rules! with_address {
 const UNWRITTEN: usize = usize::MAX;
 
 /// A receiver's state in numbers: idle where `run` is 0, the flag set where `flag` is not.
+///
+/// Any numbers may be given. Those that the library gives back are a state's: `run` and `flag` are
+/// 0 or 1, and beside a `run` of 0 all are 0. So answer 2, which leaves the state as given,
+/// rewrites numbers that no state has: 7 in `run` becomes 1.
 #[derive(Clone, Copy, Debug, Default, PartialEq, Eq)]
 pub(crate) struct State {
     pub(crate) run: u8,

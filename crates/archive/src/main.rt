@@ -4,9 +4,9 @@ use libc::STDERR_FILENO;
 use libc::STDIN_FILENO;
 use libc::STDOUT_FILENO;
 use rules::Sending;
-ghost use Rattle.archive.specs.Archive.{Filled};
+ghost use Rattle.archive.specs.Archive.{Filled, Says, Archived};
 ghost use Rattle.rules.specs.Cut.{listingSettings};
-ghost use Rattle.rules.specs.Send.{sentOf, defaultPiece, Sends};
+ghost use Rattle.rules.specs.Send.{sentOf, defaultPiece};
 ghost use mathlib.Core.Bool.{false};
 
 // What reading gave: so many bytes at the start of the buffer, or nothing, since it failed.
@@ -43,29 +43,49 @@ fn read_input(buffer: &mut [u8]) -> Input
     Input::Bytes(filled)
 }
 
-fn archive(unit: &[u8], out: &mut [u8]) -> Sending
-    ensures { λ r. ⌜ Sends (sentOf listingSettings false defaultPiece (now (unit .entry)) (now (out .entry))) r (now (out .exit)) ⌝ }
+// The unit's sections, which are the first bytes of `out`, and 0, or nothing and the refusal's number.
+fn sections<'a>(unit: &[u8], out: &'a mut [u8], number: &mut u8) -> &'a mut [u8]
+    ensures { λ r. ⌜ Says (sentOf listingSettings false defaultPiece (now (unit .entry)) (now (out .entry))) (now (number .exit)) (now r) ⌝ }
 {
-    sender::send_by_default(settings::listing_settings(), false, unit, out)
-}
-
-fn answer(unit: &[u8], out: &mut [u8]) {
-    match archive(unit, out) {
+    match sender::send_by_default(settings::listing_settings(), false, unit, out) {
         Sending::Sent(length) => {
-            io::write_all(STDOUT_FILENO, &out[..length]);
+            *number = 0;
+            &mut out[..length]
         }
-        Sending::Unsent(number) => {
-            io::print_decimal(STDERR_FILENO, number as u64);
-            io::write_all(STDERR_FILENO, b"\n");
+        Sending::Unsent(refusal) => {
+            *number = refusal;
+            &mut out[..0]
         }
     }
 }
 
-fn main() {
-    let mut unit = io::large_buffer();
-    let mut out = io::large_buffer();
-    let Input::Bytes(length) = read_input(&mut unit) else {
-        return;
+// What goes to standard output, and the number for the error output, or 0: the unit is all that was read. Where reading failed,
+// nothing goes out.
+fn archive<'a>(input: Input, buffer: &[u8], out: &'a mut [u8], number: &mut u8) -> &'a mut [u8]
+    requires { ⌜ Filled input (now buffer) ⌝ }
+    ensures { λ r. ⌜ Archived input (now (buffer .entry)) (now (out .entry)) (now (number .exit)) (now r) ⌝ }
+{
+    let Input::Bytes(length) = input else {
+        *number = 0;
+        return &mut out[..0];
     };
-    answer(&unit[..length], &mut out);
+    sections(&buffer[..length], out, number)
+}
+
+fn answer(number: u8, sections: &[u8]) {
+    if number == 0 {
+        io::write_all(STDOUT_FILENO, sections);
+        return;
+    }
+    io::print_decimal(STDERR_FILENO, number as u64);
+    io::write_all(STDERR_FILENO, b"\n");
+}
+
+fn main() {
+    let mut buffer = io::large_buffer();
+    let mut out = io::large_buffer();
+    let mut number = 0;
+    let input = read_input(&mut buffer);
+    let sections = archive(input, &buffer, &mut out, &mut number);
+    answer(number, sections);
 }

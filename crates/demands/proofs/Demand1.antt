@@ -1,141 +1,52 @@
--- The step decides the table part by part, and each part that does not apply hands on to the next.
-use Prim.Native.Nat.{ℕ, _+_}
-use native.Mathlib.Decide.{ℕ-discrete}
-use native.Mathlib.Omega.{arith}
-use mathlib.Core.Path.{_≡_, refl, sym, ap, _∙_}
-use mathlib.Core.Logic.{_⊎_, inl, inr}
-use mathlib.Core.List.{List, [], _∷_, _++_}
-use mathlib.Core.Bool.{Bool, true, false, not}
-use lib.ListN.{length}
-use lib.Seq.{slice}
-use lib.Dec.{eqb, leb, ltb}
-use borrow.Author.Tests.{eq-eqb, ne-eqb, leb-true, leb-false, le-ltb, lt-ltb}
+-- Each contract is an equation with the rules' outcome, whose number is by the table and has with it what the paper says.
+use Prim.Native.Nat.{ℕ}
+use mathlib.Core.Path.{_≡_, refl, ap, sym, _∙_}
+use mathlib.Core.Logic.{_↔_}
+use mathlib.Core.Bool.{Bool}
+use mathlib.Core.List.{List}
 use denote.Ref.{now}
-use Rattle.wire.specs.Choice.{both, first, firstOf, Line, line, pick, without}
-use Rattle.wire.proofs.Choice.{firstOf-here, firstOf-past, firstOf-without}
 use Rattle.rules.specs.declared.Settings.{Settings}
 use Rattle.rules.specs.declared.State.{State}
-use Rattle.rules.specs.declared.State.the-variants.{Open}
-use Rattle.rules.specs.declared.Answer.the-variants.{Delivered, PassedBy, Stored}
-use Rattle.rules.specs.Check.{check, checkLines, faultLines, formLines, orderLines}
-use Rattle.rules.specs.declared.Address.{Address}
-use Rattle.notification_rules.specs.declared.Notice.the-variants.{Refused as NoticeRefused}
-use Rattle.notification_rules.specs.declared.Notice.{Notice}
-use Rattle.notification_rules.specs.Notice.{noticeNumber, noticeOf, noticePlace, partOf, refusal}
-use Rattle.pes_rules.specs.declared.Reading.{Reading}
-use Rattle.pes_rules.specs.Packet.{fault as pesFault, readOf, refused as pesRefused}
-use Rattle.rules.specs.Send.{defaultPiece, sentOf}
-use Rattle.rules.proofs.Send.{sent-is, unsent-is}
-use Rattle.rules.specs.Section.{lastSectionNumber, payload, sectionNumber}
-use Rattle.rules.specs.Step.{barLines, finish, From, gapOf, goodSettings, goodState, keep, keyOf, laid, lay, Nowhere, ours, Outcome, outcome, Place, place, refuse, refuseFirst, room, stepOf}
-use Rattle.numbers.specs.Numbers.{stateOf}
-use Rattle.demands.specs.Abroad.{defaultFlag, defaultOutput, defaultSettings, defaultUnit, deviceGiven, receiveBuffer, receiveSection, receiveSettings, receiveState, sectionGiven, sendFlag, sendOutput, sendSettings, sendSize, sendUnit}
-use Rattle.demands.specs.Demand1.{ByTable, Demand1, nowhere, overfull, SendByLines, StepByTable, tableOf}
+use Rattle.rules.specs.Meaning.{receiverRows, senderRows}
+use Rattle.rules.specs.Send.{defaultPiece, sendingLength, sendingNumber, SendOutcome, sentOf}
+use Rattle.rules.specs.Step.{gapOf, lengthOf, numberOf, Outcome, stepOf}
+use Rattle.rules.proofs.After.{receiver-gives, receiver-names, sender-gives}
+use Rattle.rules.proofs.Meaning.{check-means, receiver-means, sender-means}
+use Rattle.numbers.specs.Numbers.{numbersOf, stateOf}
+use Rattle.demands.specs.Abroad.{defaultFlag, defaultOutput, defaultSettings, defaultUnit, receiveBuffer, receiveSection, receiveSettings, receiveState, sendFlag, sendOutput, sendSettings, sendSize, sendUnit}
+use Rattle.demands.specs.Demand1.{Demand1, Sends, Steps}
 
--- ---- a part of the table
-refuse-part : {σ : State} {o : Outcome} (a m : List Line) (b : List ℕ) → without 0 a ≡ true → without 2 a ≡ true
-    → ByTable m σ b o → ByTable (a ++ m) σ b (refuseFirst a b o)
-unfolding refuseFirst pick
-refuse-part {σ} {o} a m b h k t = go (ℕ-discrete (firstOf a) 0)
-  where
-    go : Dec (firstOf a ≡ 0) → ByTable (a ++ m) σ b (pick (eqb (firstOf a) 0) o (refuse (firstOf a) b))
-    go (yes e) =
-        let p : firstOf (a ++ m) ≡ firstOf m = firstOf-past a m h e in
-        rw (eq-eqb (firstOf a) 0 e) (record { refused = rw p (t .refused); passed = rw p (t .passed); taken = rw p (t .taken) })
-    go (no e) =
-        let p : firstOf (a ++ m) ≡ firstOf a = firstOf-here a m e in
-        rw (ne-eqb (firstOf a) 0 e)
-        (record {
-          refused = λ x y. rw p;
-          passed = λ z. absurd (firstOf-without 2 a k (λ z. absurd (omega arith)) (sym p ∙ z));
-          taken = λ z. absurd (e (sym p ∙ z));
-        })
+-- a step and a sending are those of the rules
+steps : (c : Settings) (σ : State) (s b : List ℕ) → let o : Outcome = stepOf c σ s b in
+    Steps c σ s b (numberOf (o .step .answer)) (lengthOf (o .step .answer)) (o .step .state) (o .buffer)
+steps c σ s b = record { number = receiver-means c σ s b; after = receiver-gives c σ s b }
 
--- ---- 2
-pass-part : {σ : State} {o : Outcome} (t : Bool) (m : List Line) (b : List ℕ) → ByTable m σ b o
-    → ByTable ((line 2 (not t) ∷ []) ++ m) σ b (pick t o (outcome PassedBy σ b))
-unfolding pick firstOf first
-pass-part true m b h = record { refused = h .refused; passed = h .passed; taken = h .taken }
-pass-part false m b h =
-    record { refused = λ x y. absurd (y refl); passed = λ z. refl; taken = λ z. absurd (omega arith) }
+sends : (c : Settings) (flag : Bool) (size : ℕ) (u out : List ℕ) → let o : SendOutcome = sentOf c flag size u out in
+    Sends c size u out (sendingNumber (o .sending)) (sendingLength (o .sending)) (o .output)
+sends c flag size u out = record { number = sender-means c flag size u out; refused = sender-gives c flag size u out .refused }
 
--- ---- 22, 23, and what is kept
-keep-taken : {σ : State} (m : List Line) → firstOf m ≡ 0 → (f : ℕ) (s b : List ℕ) → ByTable m σ b (keep f s b)
-unfolding keep pick finish
-keep-taken {σ} m h f s b = go (eqb (sectionNumber s) (lastSectionNumber s))
-  where
-    kept : {o : Outcome} → (o .step .answer ≡ Stored) ⊎ ((n : ℕ) × (o .step .answer ≡ Delivered n)) → ByTable m σ b o
-    kept t = record { refused = λ x y. absurd (x h); passed = λ z. absurd (omega (arith, h)); taken = λ z. t }
-
-    go : (t : Bool)
-        → ByTable m σ b (pick t (finish (f + length (payload s)) (laid f s b)) (outcome Stored (Open (sectionNumber s + 1) (f + length (payload s)) (keyOf s)) (laid f s b)))
-    go true = kept (inr (f + length (payload s), refl))
-    go false = kept (inl refl)
-
-fit-part : {σ : State} (f : ℕ) (s b : List ℕ) (t : Bool) → leb (f + length (payload s)) (room b) ≡ t
-    → ByTable (line 22 false ∷ line 23 (ltb (room b) (f + length (payload s))) ∷ []) σ b (pick t (keep f s b) (refuse 23 b))
-unfolding pick firstOf first
-fit-part {σ} f s b true e =
-    rw (le-ltb (room b) (f + length (payload s)) (leb-true (f + length (payload s)) (room b) e))
-    (keep-taken {σ = σ} (line 22 false ∷ line 23 false ∷ []) refl f s b)
-fit-part f s b false e =
-    rw (lt-ltb (room b) (f + length (payload s)) (leb-false (f + length (payload s)) (room b) e))
-    (record { refused = λ x y. refl; passed = λ z. absurd (omega arith); taken = λ z. absurd (omega arith) })
-
-lay-part : {σ : State} (p : Place) (s b : List ℕ) → ByTable (line 22 (nowhere p) ∷ line 23 (overfull p s b) ∷ []) σ b (lay p s b)
-unfolding lay nowhere overfull firstOf first
-lay-part Nowhere s b = record { refused = λ x y. refl; passed = λ z. absurd (omega arith); taken = λ z. absurd (omega arith) }
-lay-part (From f) s b = fit-part f s b (leb (f + length (payload s)) (room b)) refl
-
-pub step-by-table : (c : Settings) (σ : State) (s b : List ℕ) → StepByTable c σ s b (stepOf c σ s b)
-unfolding stepOf tableOf without both checkLines faultLines formLines orderLines barLines
-step-by-table c σ s b =
-    refuse-part (line 10 (not (goodSettings c)) ∷ line 11 (not (goodState σ)) ∷ []) _ b refl refl
-    (refuse-part (checkLines s) _ b refl refl
-    (pass-part (ours c s) _ b (refuse-part (barLines c s) _ b refl refl (lay-part (place σ s) s b))))
-
--- ---- the sender
-sent-by-lines : (c : Settings) (flag : Bool) (n : ℕ) (u out : List ℕ) → SendByLines c flag n u out (sentOf c flag n u out)
-sent-by-lines c flag n u out = record { refused = unsent-is c flag n u out; sent = sent-is c flag n u out }
-
--- ---- the PES reader
-pes-by-lines : (s : List ℕ) → (pesFault s ≡ 0 → ⊥) → readOf s ≡ pesRefused (pesFault s)
-unfolding readOf pick
-pes-by-lines s h = rw (ne-eqb (pesFault s) 0 h)
-
--- ---- the INT reader
-pub notice-by-lines : (device : Address) (s : List ℕ) → (refusal s ≡ 0 → ⊥) → noticeOf device s ≡ NoticeRefused (refusal s)
-unfolding noticeOf pick
-notice-by-lines device s h = rw (ne-eqb (refusal s) 0 h)
-
--- ---- the contracts
 pub demand-1 : Demand1
-unfolding check gapOf
+unfolding gapOf numbersOf
 demand-1 =
     record {
-      check = λ κs a z e p. p;
-      receive = λ κs a z e p. rw (p .step, p .buffer) (step-by-table (a .0) (a .1 .0) (now (a .1 .1 .0)) (now (a .1 .1 .1 .0)));
+      check = λ κs a z e p. rw p (check-means (now (a .0)));
+      receive = λ κs a z e p. rw (p .step, p .buffer) (steps (a .0) (a .1 .0) (now (a .1 .1 .0)) (now (a .1 .1 .1 .0)));
+      named = λ κs a z e p. rw (p .step) (receiver-names (a .0) (a .1 .0) (now (a .1 .1 .0)) (now (a .1 .1 .1 .0)));
       gap = λ κs a z e p. p;
       send = λ κs a z e p.
-          rw (p .sending, p .output) (sent-by-lines (a .0) (a .1 .0) (a .1 .1 .0) (now (a .1 .1 .1 .0)) (now (a .1 .1 .1 .1 .0)));
+          rw (p .sending, p .output) (sends (a .0) (a .1 .0) (a .1 .1 .0) (now (a .1 .1 .1 .0)) (now (a .1 .1 .1 .1 .0)));
       send-by-default = λ κs a z e p.
-          rw (p .sending, p .output) (sent-by-lines (a .0) (a .1 .0) defaultPiece (now (a .1 .1 .0)) (now (a .1 .1 .1 .0)));
-      notice = λ κs a z e p h. p ∙ notice-by-lines (a .0) (now (a .1 .0)) h;
-      notification-read = λ κs a z e p h.
-          let q = notice-by-lines (a .0) (now (a .1 .0)) h in
-          (p .number ∙ ap noticeNumber q, p .part .bytes ∙ ap (λ (n : Notice). partOf (now (a .1 .0)) n .bytes) q);
-      pes-read = λ κs a z e p h. p ∙ pes-by-lines (now (a .0)) h;
-      pes-data = λ κs a z e p h. p .bytes ∙ ap (λ (r : Reading). slice (r .start) (r .end) (now (a .0))) (pes-by-lines (now (a .0)) h);
-      fossknut-check = λ κs a z e p. p;
-      fossknut-receive = λ κs a z e p.
-          (_, step-by-table (receiveSettings κs a) (stateOf (receiveState κs a)) (receiveSection κs a) (receiveBuffer κs a), p);
+          rw (p .sending, p .output) (sends (a .0) (a .1 .0) defaultPiece (now (a .1 .1 .0)) (now (a .1 .1 .1 .0)));
+      fossknut-check = λ κs a z e p. rw p (check-means (now (a .0)));
+      fossknut-receive = λ κs a z e p. (
+        stepOf (receiveSettings κs a) (stateOf (receiveState κs a)) (receiveSection κs a) (receiveBuffer κs a) .step .state,
+        p .state,
+        rw (p .answer, p .unit, p .buffer) (steps (receiveSettings κs a) (stateOf (receiveState κs a)) (receiveSection κs a) (receiveBuffer κs a)),
+      );
       fossknut-gap = λ κs a z e p. p;
       fossknut-send = λ κs a z e p.
-          (_, sent-by-lines (sendSettings κs a) (sendFlag κs a) (sendSize κs a) (sendUnit κs a) (sendOutput κs a), p);
+          rw (p .number, p .length, p .output) (sends (sendSettings κs a) (sendFlag κs a) (sendSize κs a) (sendUnit κs a) (sendOutput κs a));
       fossknut-send-by-default = λ κs a z e p.
-          (_, sent-by-lines (defaultSettings κs a) (defaultFlag κs a) defaultPiece (defaultUnit κs a) (defaultOutput κs a), p);
-      fossknut-notification = λ κs a z e p h.
-          let q = notice-by-lines (deviceGiven κs a) (sectionGiven κs a) h in
-          (p .number ∙ ap noticeNumber q, p .place ∙ ap noticePlace q);
-      fossknut-pes = λ κs a z e p h. rw (← pes-by-lines (now (a .0)) h) p;
+          rw (p .number, p .length, p .output)
+          (sends (defaultSettings κs a) (defaultFlag κs a) defaultPiece (defaultUnit κs a) (defaultOutput κs a));
     }

@@ -1,9 +1,9 @@
-pub mod Abroad
 pub mod Allowed
 pub mod Contracts
+pub mod Abroad
 pub mod Demand1
-pub mod Meaning
-pub mod Right
-pub mod Rows
+pub mod Demand2
+pub mod Demand3
+pub mod Readers
 pub mod Samples
 pub mod Tight

@@ -1,5 +1,5 @@
 -- Document 01, 'Samples on the bench': each line marked (P), of the rules themselves, as a row of one table. Proved in proofs/Samples.antt.
-use Prim.Native.Nat.{ℕ, _+_}
+use Prim.Native.Nat.{ℕ}
 use mathlib.Core.Path.{_≡_}
 use mathlib.Core.List.{List, [], _∷_, flatten}
 use mathlib.Core.Bool.{false}
@@ -7,7 +7,7 @@ use lib.ListN.{replicate, take}
 use Rattle.rules.specs.declared.Settings.{Settings}
 use Rattle.rules.specs.Check.{check}
 use Rattle.rules.specs.Cut.{listingSettings}
-use Rattle.rules.specs.Section.{header, sealed, sectionOf}
+use Rattle.rules.specs.Section.{sealed, sectionOf}
 use Rattle.rules.specs.Send.{sections}
 use Rattle.rules.specs.Step.{lengthOf, numberOf, Outcome, stepOf}
 use Rattle.rules.specs.Row.{Event, fresh, gap, Held, next, section}
@@ -58,7 +58,7 @@ samples =
     -- (P) address above, payload of 4 bytes, no flag, alone: the header
     sample (take 12 (flatten (sections own false 4080 (replicate 4 0)))) (0x3E ∷ 0xB0 ∷ 0x11 ∷ 0x30 ∷ 0x20 ∷ 0xC1 ∷ 0 ∷ 0 ∷ 0x10 ∷ 0x5E ∷ 0 ∷ 0x02 ∷ [])
     -- (P) payload 4,080: the header starts 3E BF FD
-    ∷ sample (take 3 (header (own .address) false 0 0 (4080 + 13))) (0x3E ∷ 0xBF ∷ 0xFD ∷ [])
+    ∷ sample (take 3 (flatten (sections own false 4080 (replicate 4080 0)))) (0x3E ∷ 0xBF ∷ 0xFD ∷ [])
     -- (P) 15 bytes: 12
     ∷ sample (check (replicate 15 0) ∷ []) (12 ∷ [])
     -- (P) section_length 4,094 in 4,097 bytes: 14

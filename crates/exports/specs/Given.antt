@@ -9,7 +9,8 @@ use Rattle.notification_rules.specs.Notice.{noticeNumber, noticePlace}
 use Rattle.pes_rules.specs.declared.Reading.{Reading}
 use Rattle.numbers.specs.Numbers.{flagNumber, Numbers, numbersOf}
 
--- of the receiver: the answer's number, the unit length, the numbers of the state, and the buffer
+-- of the receiver: the answer's number, the unit length, the numbers of the state, and the buffer. They are a state's numbers whatever
+-- numbers were given, also where the state is as given (2): run and flag are 0 or 1, and idle has zeros
 pub record Given (o : Outcome) (r l : ℕ) (n : Numbers) (b : List ℕ) : Type 0 where
   pub answer : r ≡ numberOf (o .step .answer)
   pub unit : l ≡ lengthOf (o .step .answer)

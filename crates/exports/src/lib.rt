@@ -30,7 +30,9 @@ pub extern "C" fn fossknut_check(s: &[u8]) -> u8
 }
 
 // One step of the receiver, its own address in printed order. Answers the paper's number; `length` gets the unit length.
-// The state travels as numbers: `run` 0 is idle, any other value an open run; a flag other than 0 is 1.
+// The state travels as numbers: `run` 0 is idle, any other value an open run; a flag other than 0 is 1. What is given back are the numbers
+// of the state after (`numbersOf`), with answer 2 too: there the state is as given, and numbers that no state has are rewritten all the same.
+// Run 7 becomes 1, a flag of 2 becomes 1, and beside run 0 the others become 0.
 #[no_mangle]
 pub extern "C" fn fossknut_receive(
     mac1: u8,

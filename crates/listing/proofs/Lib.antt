@@ -1,3 +1,4 @@
 mod Move
 mod Owed
 mod Text
+mod Turns

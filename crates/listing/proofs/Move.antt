@@ -41,6 +41,7 @@ moved w =
       out = w .out;
       over = w .over;
       done = w .done;
+      failed = w .failed;
       state = w .state;
     }
 
@@ -59,6 +60,8 @@ kept-move w b d f q =
       over = λ t. z;
       offset = refl;
       out = refl;
+      done = refl;
+      failed = refl;
       state = refl;
     }
 
@@ -85,6 +88,7 @@ longer w n =
       out = w .out;
       over = eqb n 0;
       done = w .done;
+      failed = w .failed;
       state = w .state;
     }
 
@@ -104,6 +108,8 @@ kept-read w b ys n f o =
       over = λ z. omega (arith, eqb-true n 0 z);
       offset = refl;
       out = refl;
+      done = refl;
+      failed = refl;
       state = refl;
     }
 

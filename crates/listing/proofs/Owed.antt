@@ -3,7 +3,7 @@ use Prim.Native.Nat.{ℕ, _+_, _-_, _%_, _^_, _≤_, _<_}
 use native.Mathlib.Omega.{arith}
 use mathlib.Core.Logic.{_⊎_, inl, inr}
 use mathlib.Core.Path.{_≡_, refl, ap, sym, _∙_}
-use mathlib.Core.Bool.{Bool, true, false}
+use mathlib.Core.Bool.{Bool, true, false, true≢false}
 use mathlib.Core.List.{List, [], _∷_, _++_, append-assoc, append-nil}
 use lib.Dec.{leb}
 use lib.ListN.{length, replicate, take, drop, length-append, length-take, length-drop}
@@ -22,7 +22,7 @@ use Rattle.listing.specs.declared.Walk.{Walk}
 use Rattle.listing.specs.Text.{line, Put}
 use Rattle.rules.specs.Cut.{listingSettings}
 use Rattle.listing.specs.Lines.{linesOf, listing}
-use Rattle.listing.specs.Walk.{Fine, atHand, Left, ready, Stays, Kept, offered, outcomeOf, Served, full, written, owed, Turned}
+use Rattle.listing.specs.Walk.{Fine, atHand, Left, ready, Stays, Kept, offered, outcomeOf, Served, full, Gave, written, owed, Offered, Turned}
 use Rattle.listing.proofs.Text.{put-front}
 
 -- ---- an offer within the bytes at hand
@@ -40,6 +40,7 @@ onward w n offset out state =
       out = out;
       over = w .over;
       done = false;
+      failed = w .failed;
       state = state;
     }
 
@@ -55,6 +56,7 @@ served {n = n} c w b u e d k x =
       end = refl;
       over = refl;
       done = refl;
+      failed = refl;
       offset = x ∙ rw e;
       state = ap (λ (s : Step). s .state) (f .step);
       unit = f .buffer;
@@ -103,35 +105,61 @@ nothing : (w : Walk) (o : List ℕ) → full w (length o) ≡ false → written 
 unfolding written pick
 nothing w o h = rw h
 
-pub turned-kept : {b b′ o u rest : List ℕ} {r : Walk} (c : Settings) (w : Walk) → full w (length o) ≡ false → Kept w b r b′
-    → Left r b′ rest → Turned c w b o u r o u rest
-unfolding owed
-turned-kept {o = o} {rest = rest} c w h k l =
-    record { rest = rest; left = k .left rest l; same = rw (nothing w o h, k .out, k .offset, k .state) }
+-- a turn that goes on
+never : {A : Type 0} (w r : Walk) → w .done ≡ false → r .done ≡ w .done → r .done ≡ true → A
+never w r f e t = let z : true ≡ false = sym t ∙ e ∙ f in absurd (true≢false z)
 
-left-stays : {r : Walk} (w : Walk) (b rest : List ℕ) → Stays w r → Left r b rest → Left w b rest
+pub turned-kept : {b b′ o u : List ℕ} {r : Walk} (c : Settings) (w : Walk) → w .done ≡ false → full w (length o) ≡ false → Kept w b r b′
+    → Turned c w b o u r b′ o u
+unfolding owed
+turned-kept {o = o} {r = r} c w f h k =
+    record {
+      took = [];
+      left = k .left;
+      same = λ rest l. rw (nothing w o h, k .out, k .offset, k .state);
+      done = never w r f (k .done);
+      failed = λ q. k .failed;
+    }
+
+pub left-stays : {r : Walk} (w : Walk) (b rest : List ℕ) → Stays w r → Left r b rest → Left w b rest
 left-stays w b rest s l =
     record { front = rw (s .start, s .end) at (l .front); all = λ t. rw (s .start, s .end) at (l .all (s .over ∙ t)) }
 
-pub kept-stays : {r : Walk} (w : Walk) (b : List ℕ) → Stays w r → r .out ≡ w .out → Kept w b r b
-kept-stays w b s e =
+pub offered-stays : {r : Walk} (w : Walk) → Stays w r → Offered w → Offered r
+offered-stays w s a = (s .over ∙ a .0, s .start ∙ a .1 ∙ sym (s .end))
+
+pub turned-finish : {b o u : List ℕ} {r : Walk} (c : Settings) (w : Walk) → full w (length o) ≡ false → Stays w r → r .out ≡ w .out
+    → r .failed ≡ w .failed → Offered w → Turned c w b o u r b o u
+unfolding owed
+turned-finish {b = b} {o = o} c w h s e f a =
     record {
+      took = [];
       left = λ rest l. left-stays w b rest s l;
-      over = λ t. rw (s .start, s .end);
-      offset = s .offset;
-      out = e;
-      state = s .state;
+      same = λ rest l. rw (nothing w o h, e, s .offset, s .state);
+      done = λ t. offered-stays w s a;
+      failed = λ q. f;
     }
 
-pub turned-flush : {b o u rest : List ℕ} {r : Walk} (c : Settings) (w : Walk) → full w (length o) ≡ true → Stays w r → r .out ≡ 0
-    → Left r b rest → Turned c w b o u r o u rest
-unfolding owed written pick
-turned-flush {b = b} {rest = rest} c w h s e l =
-    record { rest = rest; left = left-stays w b rest s l; same = rw (h, e, s .offset, s .state) }
+-- what a write is given was owed first
+pub gave-owed : {o text : List ℕ} {r : Walk} (c : Settings) (w : Walk) (u rest : List ℕ) → Gave w o text r
+    → owed c w o u rest ≡ text ++ owed c r o u rest
+unfolding owed
+gave-owed c w u rest g = rw (g .given, g .out, g .stays .offset, g .stays .state)
+
+pub turned-flush : {b o u : List ℕ} {r : Walk} (c : Settings) (w : Walk) → w .done ≡ false → full w (length o) ≡ true
+    → Gave w o (take (w .out) o) r → Turned c w b o u r b o u
+unfolding written pick
+turned-flush {b = b} {o = o} {u = u} {r = r} c w f h g =
+    record {
+      took = [];
+      left = λ rest l. left-stays w b rest (g .stays) l;
+      same = λ rest l. rw h (gave-owed c w u rest g);
+      done = never w r f (g .done);
+      failed = λ q. absurd (true≢false (sym h ∙ q));
+    }
 
 module _
-    {b o o′ u u′ rest : List ℕ} {r : Walk} (c : Settings) (w : Walk) (fine : Fine w (length b)) (s : Served c w b o u r o′ u′)
-    (l : Left r b rest) where
+    {b o o′ u u′ : List ℕ} {r : Walk} (c : Settings) (w : Walk) (fine : Fine w (length b)) (s : Served c w b o u r o′ u′) where
   abbrev n : ℕ
   n = offerLength (atHand w b)
 
@@ -145,8 +173,8 @@ module _
   long = length-take-le n (drop (w .start) b) (omega (arith, length-drop (w .start) b, stop, fine .within))
 
   -- the offer and what is left behind it were left before
-  before : Left w b (p ++ rest)
-  before =
+  before : (rest : List ℕ) → Left r b rest → Left w b (p ++ rest)
+  before rest l =
       record {
         front = front-before b rest (w .start) (w .end) n stop long (rw (s .start, s .end) at (l .front));
         all = λ t. omega (arith, rw (s .start, s .end) at (l .all (s .over ∙ t)), length-append p rest, long, stop);
@@ -158,23 +186,30 @@ module _
       offer-some (atHand w b) (omega (arith, apart, fine .order, length-take-le (w .end - w .start) (drop (w .start) b) h))
 
   -- the offer is the recording's next
-  next : ready w ≡ true → (w .start ≡ w .end → ⊥) → offers (p ++ rest) ≡ p ∷ offers rest
-  next h apart =
-      let q : offerLength (p ++ rest) ≡ n = same-offer w b (p ++ rest) h before in
+  next : (rest : List ℕ) → Left r b rest → ready w ≡ true → (w .start ≡ w .end → ⊥) → offers (p ++ rest) ≡ p ∷ offers rest
+  next rest l h apart =
+      let q : offerLength (p ++ rest) ≡ n = same-offer w b (p ++ rest) h (before rest l) in
       offers-more (p ++ rest) (omega (arith, length-append p rest, long, some apart))
       ∙ rw (q, take-at p rest n long, drop-at p rest n long)
 
-  pub turned-serve : ready w ≡ true → (w .start ≡ w .end → ⊥) → full w (length o) ≡ false → Turned c w b o u r o′ u′ rest
+  line-owed : ready w ≡ true → (w .start ≡ w .end → ⊥) → full w (length o) ≡ false → (rest : List ℕ) → Left r b rest
+      → owed c w o u (p ++ rest) ≡ written w o ++ owed c r o′ u′ rest
   unfolding owed linesOf
-  turned-serve h apart k =
+  line-owed h apart k rest l =
       let x : Outcome = outcomeOf c w b u in
       let more : List ℕ = linesOf c ((w .offset + length p) % 2 ^ 64) (x .step .state) (x .buffer) (offers rest) in
+      ap (λ (x : List (List ℕ)). take (w .out) o ++ linesOf c (w .offset) (w .state) u x) (next rest l h apart)
+      ∙ sym (append-assoc (take (w .out) o) (line (w .offset) (x .step .answer)) more)
+      ∙ rw (nothing w o k, put-front (s .text), s .offset, s .state, s .unit, long)
+
+  pub turned-serve : ready w ≡ true → (w .start ≡ w .end → ⊥) → full w (length o) ≡ false → Turned c w b o u r b o′ u′
+  turned-serve h apart k =
       record {
-        rest = p ++ rest;
+        took = p;
         left = before;
-        same = ap (λ (x : List (List ℕ)). take (w .out) o ++ linesOf c (w .offset) (w .state) u x) (next h apart)
-            ∙ sym (append-assoc (take (w .out) o) (line (w .offset) (x .step .answer)) more)
-            ∙ rw (nothing w o k, put-front (s .text), s .offset, s .state, s .unit, long);
+        same = line-owed h apart k;
+        done = λ t. absurd (true≢false (sym t ∙ s .done));
+        failed = λ q. s .failed;
       }
 
 -- ready with nothing at hand: the input has ended

@@ -31,7 +31,7 @@ pub record Left (w : Walk) (b rest : List ℕ) : Type 0 where
 unfoldable pub ready : Walk → Bool
 ready w = either (w .over) (leb 4098 (w .end - w .start))
 
--- nothing but the output's end and `done` may change
+-- nothing but the output's end, `done` and `failed` may change
 pub record Stays (w r : Walk) : Type 0 where
   pub start : r .start ≡ w .start
   pub end : r .end ≡ w .end
@@ -46,6 +46,8 @@ pub record Kept (w : Walk) (b : List ℕ) (r : Walk) (b′ : List ℕ) : Type 0 
   pub over : r .over ≡ true → r .end - r .start ≡ w .end - w .start
   pub offset : r .offset ≡ w .offset
   pub out : r .out ≡ w .out
+  pub done : r .done ≡ w .done
+  pub failed : r .failed ≡ w .failed
   pub state : r .state ≡ w .state
 
 -- ---- one offer
@@ -61,6 +63,7 @@ pub record Served (c : Settings) (w : Walk) (b o u : List ℕ) (r : Walk) (o′ 
   pub end : r .end ≡ w .end
   pub over : r .over ≡ w .over
   pub done : r .done ≡ false
+  pub failed : r .failed ≡ w .failed
   pub offset : r .offset ≡ (w .offset + offerLength (atHand w b)) % 2 ^ 64
   pub state : r .state ≡ outcomeOf c w b u .step .state
   pub unit : u′ ≡ outcomeOf c w b u .buffer
@@ -75,7 +78,14 @@ Room w n = w .out ≤ n
 unfoldable pub full : Walk → ℕ → Bool
 full w n = ltb (n - w .out) 63
 
--- what a turn hands to the output
+-- a write is given `text`, all that the output's buffer o holds; it may fail
+pub record Gave (w : Walk) (o text : List ℕ) (r : Walk) : Type 0 where
+  pub given : text ≡ take (w .out) o
+  pub out : r .out ≡ 0
+  pub done : r .done ≡ w .done
+  pub stays : Stays w r
+
+-- what a turn gives to a write
 unfoldable pub written : Walk → List ℕ → List ℕ
 written w o = pick (full w (length o)) (take (w .out) o) []
 
@@ -83,8 +93,16 @@ written w o = pick (full w (length o)) (take (w .out) o) []
 unfoldable pub owed : Settings → Walk → List ℕ → List ℕ → List ℕ → List ℕ
 owed c w o u rest = take (w .out) o ++ linesOf c (w .offset) (w .state) u (offers rest)
 
--- ---- one turn: what was owed is what the turn writes and what is owed after it, whatever is left then
-pub record Turned (c : Settings) (w : Walk) (b o u : List ℕ) (r : Walk) (o′ u′ rest′ : List ℕ) : Type 0 where
-  pub rest : List ℕ
-  pub left : Left w b rest
-  pub same : owed c w o u rest ≡ written w o ++ owed c r o′ u′ rest′
+-- ---- one turn
+-- all of the input is offered
+abbrev pub Offered : Walk → Type 0
+Offered w = (w .over ≡ true) × (w .start ≡ w .end)
+
+-- some bytes of the recording are offered, and what was owed is what the turn writes and what is owed after it, whatever is left then; only
+-- a turn that writes can fail
+pub record Turned (c : Settings) (w : Walk) (b o u : List ℕ) (r : Walk) (b′ o′ u′ : List ℕ) : Type 0 where
+  pub took : List ℕ
+  pub left : (rest : List ℕ) → Left r b′ rest → Left w b (took ++ rest)
+  pub same : (rest : List ℕ) → Left r b′ rest → owed c w o u (took ++ rest) ≡ written w o ++ owed c r o′ u′ rest
+  pub done : r .done ≡ true → Offered r
+  pub failed : full w (length o) ≡ false → r .failed ≡ w .failed

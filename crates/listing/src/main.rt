@@ -14,10 +14,11 @@ ghost use Rattle.listing.specs.Text.{decimal, field, line, Put};
 ghost use Rattle.rules.specs.declared.Settings.{Settings as Given};
 ghost use Rattle.rules.specs.Cut.{listingSettings};
 ghost use Rattle.listing.specs.Lines.{listing};
-ghost use Rattle.listing.specs.Walk.{Fine, Left, ready, Stays, Kept, Served, Room, full, owed, Turned};
+ghost use Rattle.listing.specs.Walk.{Fine, Left, ready, Stays, Kept, Served, Room, full, Gave, owed, Turned};
+ghost use Rattle.listing.specs.Run.{Ended, Ran};
 
 // The bytes at hand are start..end of the input's buffer, the first of them is number `offset` of the input, and the output's
-// buffer holds `out` bytes of whole lines. over: the input has ended; done: nothing more is to be done.
+// buffer holds `out` bytes of whole lines. over: the input has ended; done: all of it is offered; failed: a write failed.
 struct Walk {
     start: usize,
     end: usize,
@@ -25,6 +26,7 @@ struct Walk {
     out: usize,
     over: bool,
     done: bool,
+    failed: bool,
     state: State,
 }
 
@@ -103,6 +105,7 @@ fn serve(settings: Settings, walk: Walk, input: &[u8], output: &mut [u8], unit: 
         out: at,
         over: walk.over,
         done: false,
+        failed: walk.failed,
         state: after,
     }
 }
@@ -151,17 +154,31 @@ fn refill(walk: Walk, input: &mut [u8]) -> Walk
     after
 }
 
-// Writes what the output's buffer holds; where that fails, nothing more is to be done.
-fn flush(walk: Walk, output: &[u8]) -> Walk
+// What the output's buffer holds. Both writes, that of a full buffer and the last, take their bytes from here.
+fn pending<'a>(walk: Walk, output: &'a [u8]) -> &'a [u8]
     requires { ⌜ Room walk (length (now output)) ⌝ }
-    ensures { λ r. ⌜ Stays walk r ⌝ }
-    ensures { λ r. ⌜ r .out ≡ 0 ⌝ }
+    ensures { λ r. ⌜ now r ≡ take (walk .out) (now (output .entry)) ⌝ }
 {
     let out = walk.out;
+    &output[..out]
+}
+
+// The one write to standard output: what it is given has to be all that the output's buffer holds, which is empty then.
+fn write(walk: Walk, output: &[u8], text: &[u8]) -> Walk
+    requires { ⌜ now text ≡ take (walk .out) (now output) ⌝ }
+    ensures { λ r. ⌜ Gave walk (now (output .entry)) (now (text .entry)) r ⌝ }
+{
     let mut after = walk;
     after.out = 0;
-    after.done = !io::write_all(STDOUT_FILENO, &output[..out]);
+    after.failed = !io::write_all(STDOUT_FILENO, text);
     after
+}
+
+fn flush(walk: Walk, output: &[u8]) -> Walk
+    requires { ⌜ Room walk (length (now output)) ⌝ }
+    ensures { λ r. ⌜ Gave walk (now (output .entry)) (take (walk .out) (now (output .entry))) r ⌝ }
+{
+    write(walk, output, pending(walk, output))
 }
 
 // The input has ended and all of it is offered: what the output's buffer holds is all that is owed.
@@ -169,7 +186,7 @@ fn finish(walk: Walk) -> Walk
     requires { ⌜ walk .over ≡ true ⌝ }
     requires { ⌜ walk .start ≡ walk .end ⌝ }
     ensures { λ r. ⌜ Stays walk r ⌝ }
-    ensures { λ r. ⌜ (r .out ≡ walk .out) × (r .done ≡ true) ⌝ }
+    ensures { λ r. ⌜ (r .out ≡ walk .out) × (r .done ≡ true) × (r .failed ≡ walk .failed) ⌝ }
     ensures { λ r. ⌜ ((c : Given) (b o u rest : List ℕ) → Left r b rest → owed c r o u rest ≡ take (r .out) o) ⌝ }
 {
     let mut after = walk;
@@ -201,11 +218,11 @@ fn turn(
 ) -> Walk
     requires { ⌜ Fine walk (length (now input)) ⌝ }
     requires { ⌜ Room walk (length (now output)) ⌝ }
+    requires { ⌜ walk .done ≡ false ⌝ }
     ensures { λ r. ⌜ Fine r (length (now (input .entry))) ⌝ }
     ensures { λ r. ⌜ Room r (length (now (output .entry))) ⌝ }
-    ensures { λ r. ⌜ ((rest : List ℕ) → Left r (now (input .exit)) rest →
-        Turned settings walk (now (input .entry)) (now (output .entry)) (now (unit .entry))
-        r (now (output .exit)) (now (unit .exit)) rest) ⌝ }
+    ensures { λ r. ⌜ Turned settings walk (now (input .entry)) (now (output .entry)) (now (unit .entry))
+        r (now (input .exit)) (now (output .exit)) (now (unit .exit)) ⌝ }
 {
     if full(walk, output.len()) {
         return flush(walk, output);
@@ -223,7 +240,7 @@ fn turn(
 fn fresh() -> Walk
     ensures { λ r. ⌜ ((o recording : List ℕ) → owed listingSettings r o (replicate 65535 0) recording ≡ listing recording) ⌝ }
     ensures { λ r. ⌜ (Fine r 0) × (Room r 0) ⌝ }
-    ensures { λ r. ⌜ (r .over ≡ false) × (r .done ≡ false) ⌝ }
+    ensures { λ r. ⌜ (r .over ≡ false) × (r .done ≡ false) × (r .failed ≡ false) ⌝ }
 {
     Walk {
         start: 0,
@@ -232,33 +249,56 @@ fn fresh() -> Walk
         out: 0,
         over: false,
         done: false,
+        failed: false,
         state: State::Idle,
     }
 }
 
-// A proved loop has to end, and nothing says that the input does: the turns count down from a number that no run uses up.
-fn run(settings: Settings, input: &mut [u8], output: &mut [u8], unit: &mut [u8]) {
-    let mut walk = fresh();
+// Turn after turn, until all is offered or a write failed. A proved loop has to end, and nothing says that the input does: the
+// turns count down from a number that no run uses up.
+fn walk_on(
+    settings: Settings,
+    start: Walk,
+    input: &mut [u8],
+    output: &mut [u8],
+    unit: &mut [u8],
+) -> Walk
+    requires { ⌜ Fine start (length (now input)) ⌝ }
+    requires { ⌜ Room start (length (now output)) ⌝ }
+    requires { ⌜ start .done ≡ false ⌝ }
+    ensures { λ r. ⌜ Room r (length (now (output .entry))) ⌝ }
+    ensures { λ r. ⌜ Ended settings start (now (input .entry)) (now (output .entry)) (now (unit .entry))
+        r (now (input .exit)) (now (output .exit)) (now (unit .exit)) ⌝ }
+{
+    let mut walk = start;
     let mut turns = u64::MAX;
     while turns > 0 {
         if walk.done {
-            break;
+            return walk;
+        }
+        if walk.failed {
+            return walk;
         }
         walk = turn(settings, walk, input, output, unit);
         turns -= 1;
     }
-    let out = walk.out;
-    io::write_all(STDOUT_FILENO, &output[..out]);
+    walk
+}
+
+// The whole listing: the turns, and what their last lines leave in the output's buffer.
+fn run(input: &mut [u8], output: &mut [u8], unit: &mut [u8]) -> Walk
+    requires { ⌜ now unit ≡ replicate 65535 0 ⌝ }
+    ensures { λ r. ⌜ Ran (now (input .entry)) (now (output .entry)) (now (unit .entry))
+        r (now (input .exit)) (now (output .exit)) (now (unit .exit)) ⌝ }
+{
+    let start = fresh();
+    let end = walk_on(settings::listing_settings(), start, input, output, unit);
+    flush(end, output)
 }
 
 fn main() {
     let mut input = io::large_buffer();
     let mut output = io::large_buffer();
     let mut unit = [0; 65535];
-    run(
-        settings::listing_settings(),
-        &mut input,
-        &mut output,
-        &mut unit,
-    );
+    run(&mut input, &mut output, &mut unit);
 }

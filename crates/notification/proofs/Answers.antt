@@ -5,6 +5,7 @@ use native.Mathlib.Decide.{decLe}
 use mathlib.Core.Path.{_≡_, refl, sym, ap, fun-ext, _∙_}
 use mathlib.Core.Bool.{Bool, true, false, not}
 use mathlib.Core.List.{List, [], _∷_, List·Memᴰ, List·Memᴰ·head, List·Memᴰ·tail}
+use mathlib.Core.Option.{some}
 use lib.ListN.{length, take, drop, length-drop}
 use borrow.Author.Tests.{lt-ltb, le-ltb, ne-eqb}
 use denote.Ref.{RefT, now}
@@ -16,7 +17,7 @@ use Rattle.notification_rules.specs.declared.Notice.the-variants.{Found, Nobody
 use Rattle.wire.specs.Part.{Part, part, Is}
 use Rattle.notification_rules.specs.Cut.{cutOf, stop, more, isNil, odd, placed}
 use Rattle.notification_rules.specs.Loop.{loopSize, checked, loopCut, loopsOf, content, descriptorPieces, descriptorsOf, Pair}
-use Rattle.notification_rules.specs.Target.{isCover, coverOf, Location, nowhere, at, located, isLocation, orElse, locationOf, answers, one, firstPair}
+use Rattle.notification_rules.specs.Target.{isCover, coverOf, Location, nowhere, at, located, isLocation, orElse, locationOf, answers, firstPair}
 use Rattle.notification_rules.specs.Notice.{refusal, fits, found, chosen, searched, noticeOf, noticeNumber, partOf, Answered}
 use Rattle.notification_rules.proofs.Pieces.{loop-two, loops-stop}
 use Rattle.notification_rules.proofs.Parts.{stands-behind, stands-bytes}
@@ -146,7 +147,7 @@ module _ (device : Address) (s h : List ℕ) (eh : h ≡ checked s) (z : refusal
     notice-nobody e = notice-is ∙ rw (le-ltb r (length h) (omega arith))
 
     module _ (l : r < length h) where
-      choice-is : choiceAt h r ≡ one (pairAt h r)
+      choice-is : choiceAt h r ≡ some (pairAt h r)
       unfolding choiceAt pick
       choice-is = rw (lt-ltb r (length h) l)
 

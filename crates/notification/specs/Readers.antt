@@ -3,6 +3,7 @@ use Prim.Native.Nat.{ℕ, _+_, _≤_}
 use mathlib.Core.Path.{_≡_}
 use mathlib.Core.Bool.{Bool, true, false, not}
 use mathlib.Core.List.{List, [], _∷_}
+use mathlib.Core.Option.{Option, none, some}
 use lib.ListN.{length, take, drop}
 use lib.Dec.{ltb}
 use denote.Ref.{RefT, now}
@@ -12,7 +13,7 @@ use Rattle.notification_rules.specs.declared.Notice.the-variants.{Found}
 use Rattle.wire.specs.Part.{Part, part, Is}
 use Rattle.notification_rules.specs.Cut.{Cut, cutOf, isNil, every, odd, placed}
 use Rattle.notification_rules.specs.Loop.{loopSize, descriptorSize, platformPlace, content, filled, Pair, pairsOf, descriptorPieces, descriptorsOf}
-use Rattle.notification_rules.specs.Target.{isCover, coverOf, Location, nowhere, at, located, isLocation, orElse, Choice, none, one, firstPair}
+use Rattle.notification_rules.specs.Target.{isCover, coverOf, Location, nowhere, at, located, isLocation, orElse, firstPair}
 use Rattle.notification_rules.specs.Notice.{known, found}
 
 -- 32 where descriptors do not fill a loop, else 33 where a known one has another length, here or before, else 0
@@ -110,8 +111,8 @@ answersBy device general x =
     both (isCover (coverOf device (x .target))) (either (isLocation (located (descriptorsOf (x .operational)))) general)
 
 -- the pair at a place, or none at the end
-unfoldable pub choiceAt : List ℕ → ℕ → Choice
-choiceAt s o = pick (ltb o (length s)) (one (pairAt s o)) none
+unfoldable pub choiceAt : List ℕ → ℕ → Option Pair
+choiceAt s o = pick (ltb o (length s)) (some (pairAt s o)) none
 
 -- r is the place of the first pair from o on that answers, or the end
 pub record Chosen (device : Address) (general : Bool) (s : List ℕ) (o r : ℕ) : Type 0 where

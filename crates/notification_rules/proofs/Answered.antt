@@ -1,32 +1,35 @@
--- The search over what was cut back gives what the pairs that were written say.
+-- The search over what was cut back gives what the pairs that were written say, and the nine bytes stand where their lengths put them.
 use Prim.Native.Nat.{ℕ, zero, suc, _+_, _*_, _/_, _%_, _^_, _<_}
 use native.Mathlib.Nat.{mod-eq-of-lt, mod-one, mod-lt, one-le-pow, pow-succ'}
 use native.Mathlib.Omega.{arith}
 use mathlib.Core.Path.{_≡_, refl, sym, ap, ap₂, _∙_}
 use mathlib.Core.Bool.{Bool, true, false, cond, _&&_, _||_}
 use mathlib.Core.Logic.{_⊎_, inl, inr}
-use mathlib.Core.List.{List, [], _∷_, _++_, append-nil, flatten, map, List·Memᴰ, List·Memᴰ·head, List·Memᴰ·tail, List·Memᴰ·not-nil, List·Memᴰ·cases-cons}
-use mathlib.Core.Option.{Option, none, some}
+use mathlib.Core.List.{List, [], _∷_, _++_, append-assoc, append-nil, flatten, map, List·Memᴰ, List·Memᴰ·head, List·Memᴰ·tail, List·Memᴰ·not-nil, List·Memᴰ·cases-cons}
+use mathlib.Core.Option.{Option, none, some, orElse, Option·elim}
 use lib.Arith.{digits-div, mod-mul}
 use lib.Bits.{bitAnd, and-shr, and-mod, and-le-r}
 use lib.Dec.{eqb, leb, lit<}
-use lib.ListN.{length, length-append}
+use lib.ListN.{length, drop, length-append}
 use borrow.Author.Tests.{eq-eqb, ne-eqb, eqb-true, eqb-false}
 use Rattle.wire.specs.Bytes.{bytesOf, bit, numberAt}
 use Rattle.wire.specs.Choice.{pick, both}
 use Rattle.wire.specs.Part.{Part, part}
 use Rattle.wire.proofs.Bytes.{length-bytesOf, numberAt-bytesOf}
 use Rattle.rules.specs.declared.Address.{Address}
+use Rattle.rules.specs.Section.{sealed}
 use Rattle.notification_rules.specs.declared.Notice.{Notice}
+use Rattle.notification_rules.specs.declared.Notice.the-variants.{Found, Nobody}
 use Rattle.notification_rules.specs.Cut.{Cut, isNil, any, placed}
 use Rattle.notification_rules.specs.Loop.{descriptorPieces, descriptorsOf, loopsOf, Pair, pairsOf}
-use Rattle.notification_rules.specs.Target.{streamLocation, addressNumber, sameUnder, inRange, covers, by, coverFrom, coverOf, isCover, Location, nowhere, at, located, locationOf, answers, Choice, firstPair}
+use Rattle.notification_rules.specs.Target.{addressNumber, sameUnder, inRange, covers, by, coverFrom, coverOf, isCover, Location, nowhere, at, located, isLocation, locationOf, answers, firstPair}
 use Rattle.notification_rules.specs.Target as target
-use Rattle.notification_rules.specs.Notice.{found, chosen, searched}
-use Rattle.notification_rules.specs.Format.{byTurns, Descriptor, masked, ranges, location, other, Loop, tagOf, rangeWritten, bodyWritten, descriptorWritten, contentWritten, loopWritten, pairWritten, notificationWritten, Held, Fits, FitsLoop, deviceNumber, sameWhere, one, targets, covered, isLocation, nineBytes, orElse, tell, answerFrom, answerTo, WrittenIsFound}
+use Rattle.notification_rules.specs.Notice.{found, chosen, searched, noticeNumber, noticeOf, noticePlace, partOf}
+use Rattle.notification_rules.specs.Format.{Descriptor, masked, ranges, location, other, Loop, Notification, tagOf, rangeWritten, bodyWritten, descriptorWritten, contentWritten, loopWritten, pairWritten, headWritten, notificationWritten, Held, Fits, FitsLoop, Conforms, deviceNumber, sameWhere, one, targets, covered, locationIn, locationTo, foundAt, foundNobody, answerTo, Gives, WrittenIsFound}
+use Rattle.notification_rules.specs.Meaning.{byTurns}
 use Rattle.notification_rules.proofs.Pieces.{covered-any}
-use Rattle.notification_rules.proofs.Entries.{masks-cover, ranges-cover}
-use Rattle.notification_rules.proofs.Others.{other-covers}
+use Rattle.notification_rules.proofs.Parts.{Stands, stands-behind, stands-bytes, stands-first, stands-second}
+use Rattle.notification_rules.proofs.Entries.{masks-cover, other-covers, ranges-cover}
 use Rattle.notification_rules.proofs.Found.{unrefused}
 use Rattle.notification_rules.proofs.Taken.{range-length, loop-content, descriptors-cut, loops-cut, written-is-taken}
 
@@ -136,7 +139,7 @@ covers-is device (ranges rs) h =
     ranges-cover device (map rangeWritten rs) (all-long rangeWritten 12 range-length rs)
     ∙ any-one rangeWritten (inRange device) (λ r. leb (r .0) (deviceNumber device) && leb (deviceNumber device) (r .1)) rs
     (λ r m. rw (six (r .0) (bytesOf 6 (r .1)) (h r m .0), six-second (r .0) (r .1) (h r m .1), device-is device))
-covers-is device (location b) h = other-covers device (descriptorWritten (location b)) (λ e. omega arith) (λ e. omega arith)
+covers-is device (location l) h = other-covers device (descriptorWritten (location l)) (λ e. omega arith) (λ e. omega arith)
 covers-is device (other t b) h = other-covers device (descriptorWritten (other t b)) (h .1 .0) (h .1 .1)
 
 -- ---- a loop that was written
@@ -161,73 +164,190 @@ module _ (l : Loop) (f : FitsLoop l) where
       ap₂ (λ (b : List ℕ) (ds : List Part). isCover (pick (isNil b) (by 0) (coverFrom device ds))) (loop-content l) (pieces-are o)
       ∙ list-cover device (o + 2) (l .descriptors) (f .descriptors)
 
-placeOf : Location → Option ℕ
-placeOf nowhere = none
-placeOf (at d) = some (d .place + 2)
+-- the nine bytes of a 0x13, and their place
+partAt : Location → Option Part
+partAt nowhere = none
+partAt (at d) = some (part (d .place + 2) (drop 2 (d .bytes)))
 
-tag-is : (d : Descriptor) → Held d → eqb (tagOf d) streamLocation ≡ isLocation d
-tag-is (masked mask xs) h = refl
-tag-is (ranges rs) h = refl
-tag-is (location b) h = refl
-tag-is (other t b) h = ne-eqb t streamLocation (h .1 .2)
-
-nine-is : (o : ℕ) (ds : List Descriptor) → ((d : Descriptor) → List·Memᴰ d ds → Fits d)
-    → placeOf (located (placed o (map descriptorWritten ds))) ≡ nineBytes o ds
-unfolding located placed nineBytes pick placeOf
-nine-is o [] h = refl
-nine-is o (d ∷ ds) h =
-    rw (tag-is d (h d (List·Memᴰ·head refl) .held))
-    (go (isLocation d) (nine-is (o + length (descriptorWritten d)) ds (λ e m. h e (List·Memᴰ·tail m))))
+nine-is : (o : ℕ) (ds : List Descriptor) → partAt (located (placed o (map descriptorWritten ds))) ≡ locationIn o ds
+unfolding located placed locationIn pick partAt
+nine-is o [] = refl
+nine-is o (d ∷ ds) = go (eqb (tagOf d) 0x13) (nine-is (o + length (descriptorWritten d)) ds)
   where
-    go : (b : Bool) → placeOf (located (placed (o + length (descriptorWritten d)) (map descriptorWritten ds))) ≡ nineBytes (o + length (descriptorWritten d)) ds
-        → placeOf (pick b (at (part o (descriptorWritten d))) (located (placed (o + length (descriptorWritten d)) (map descriptorWritten ds))))
-        ≡ cond b (some (o + 2)) (nineBytes (o + length (descriptorWritten d)) ds)
+    go : (b : Bool)
+        → partAt (located (placed (o + length (descriptorWritten d)) (map descriptorWritten ds))) ≡ locationIn (o + length (descriptorWritten d)) ds
+        → partAt (pick b (at (part o (descriptorWritten d))) (located (placed (o + length (descriptorWritten d)) (map descriptorWritten ds))))
+        ≡ cond b (some (part (o + 2) (bodyWritten d))) (locationIn (o + length (descriptorWritten d)) ds)
     go true ih = refl
     go false ih = ih
 
-located-is : (l : Loop) → FitsLoop l → (o : ℕ) → placeOf (located (descriptorsOf (part o (loopWritten l)))) ≡ nineBytes (o + 2) (l .descriptors)
-located-is l f o = ap (λ (ds : List Part). placeOf (located ds)) (pieces-are l f o) ∙ nine-is (o + 2) (l .descriptors) (f .descriptors)
+located-is : (l : Loop) → FitsLoop l → (o : ℕ) → partAt (located (descriptorsOf (part o (loopWritten l)))) ≡ locationIn (o + 2) (l .descriptors)
+located-is l f o = ap (λ (ds : List Part). partAt (located ds)) (pieces-are l f o) ∙ nine-is (o + 2) (l .descriptors)
 
-else-is : (a b : Location) → placeOf (target.orElse a b) ≡ orElse (placeOf a) (placeOf b)
-unfolding target.orElse orElse placeOf
+else-is : (a b : Location) → partAt (target.orElse a b) ≡ orElse (partAt a) (partAt b)
+unfolding target.orElse orElse partAt
 else-is nowhere b = refl
 else-is (at d) b = refl
 
 -- ---- the search
-tell-is : (platform : Part) (c : Bool) (x : Pair) (l : Location) → locationOf platform x ≡ l → (later : Choice)
-    → chosen platform (pick (both c (target.isLocation l)) (target.one x) later) ≡ tell c (placeOf l) (chosen platform later)
-unfolding chosen pick both target.isLocation tell found placeOf
-tell-is platform true x nowhere e later = refl
-tell-is platform true x (at d) e later = ap found e
-tell-is platform false x nowhere e later = refl
-tell-is platform false x (at d) e later = refl
+noticeAt : Option Part → Notice
+noticeAt none = Nobody
+noticeAt (some p) = Found (p .place)
+
+pair-is : (platform : Part) (c : Bool) (x : Pair) (l : Location) → locationOf platform x ≡ l → (later : Option Pair) (o : Option Part)
+    → chosen platform later ≡ noticeAt o
+    → chosen platform (pick (both c (isLocation l)) (some x) later) ≡ noticeAt (orElse (cond c (partAt l) none) o)
+unfolding chosen pick both isLocation found partAt noticeAt orElse
+pair-is platform true x nowhere e later o h = h
+pair-is platform true x (at d) e later o h = ap found e
+pair-is platform false x nowhere e later o h = h
+pair-is platform false x (at d) e later o h = h
 
 search-is : (device : Address) (platform : Loop) → FitsLoop platform → (o : ℕ) (ps : List (Loop × Loop))
     → ((p : Loop × Loop) → List·Memᴰ p ps → FitsLoop (p .0) × FitsLoop (p .1))
-    → chosen (part 12 (loopWritten platform)) (firstPair (answers device (part 12 (loopWritten platform))) (pairsOf (placed o (map loopWritten (byTurns ps)))))
-    ≡ answerFrom (deviceNumber device) (nineBytes 14 (platform .descriptors)) o ps
-unfolding byTurns placed pairsOf firstPair answerFrom chosen answers locationOf
+    → chosen (part 12 (loopWritten platform))
+    (firstPair (answers device (part 12 (loopWritten platform))) (pairsOf (placed o (map loopWritten (byTurns ps)))))
+    ≡ noticeAt (locationTo (deviceNumber device) (locationIn 14 (platform .descriptors)) o ps)
+unfolding byTurns placed pairsOf firstPair locationTo chosen answers locationOf noticeAt
 search-is device platform f o [] h = refl
 search-is device platform f o (p ∷ ps) h =
     let here : Part = part 12 (loopWritten platform) in
+    let general : Option Part = locationIn 14 (platform .descriptors) in
     let t : ℕ = length (loopWritten (p .0)) in
     let x : Pair = record { target = part o (loopWritten (p .0)); operational = part (o + t) (loopWritten (p .1)) } in
     let fits = h p (List·Memᴰ·head refl) in
     let e : o + t + length (loopWritten (p .1)) ≡ o + length (pairWritten p) =
     omega (arith, length-append (loopWritten (p .0)) (loopWritten (p .1))) in
-    let place : placeOf (locationOf here x) ≡ orElse (nineBytes (o + t + 2) (p .1 .descriptors)) (nineBytes 14 (platform .descriptors)) =
+    let place : partAt (locationOf here x) ≡ orElse (locationIn (o + t + 2) (p .1 .descriptors)) general =
     else-is (located (descriptorsOf (x .operational))) (located (descriptorsOf here))
     ∙ ap₂ orElse (located-is (p .1) (fits .1) (o + t)) (located-is platform f 12) in
-    let later : Choice = firstPair (answers device here) (pairsOf (placed (o + t + length (loopWritten (p .1))) (map loopWritten (byTurns ps)))) in
-    tell-is here (isCover (coverOf device (x .target))) x (locationOf here x) refl later
-    ∙ ap (λ (c : Bool). tell c (placeOf (locationOf here x)) (chosen here later)) (cover-is (p .0) (fits .0) device o)
-    ∙ ap₂ (λ (l : Option ℕ) (r : Notice). tell (covered (deviceNumber device) (p .0 .descriptors)) l r) place
+    let rest : Option Part = locationTo (deviceNumber device) general (o + length (pairWritten p)) ps in
+    pair-is here (isCover (coverOf device (x .target))) x (locationOf here x) refl _ rest
     (ap (λ (k : ℕ). chosen here (firstPair (answers device here) (pairsOf (placed k (map loopWritten (byTurns ps)))))) e
     ∙ search-is device platform f (o + length (pairWritten p)) ps (λ q m. h q (List·Memᴰ·tail m)))
+    ∙ ap₂ (λ (c : Bool) (l : Option Part). noticeAt (orElse (cond c l none) rest)) (cover-is (p .0) (fits .0) device o) place
+
+-- ---- the nine bytes
+record Nine (s : List ℕ) (p : Part) : Type 0 where
+  stands : Stands s p
+  long : length (p .bytes) ≡ 9
+
+nine-long : (d : Descriptor) → Held d → tagOf d ≡ 0x13 → length (bodyWritten d) ≡ 9
+unfolding bodyWritten bytesOf
+nine-long (masked mask xs) h e = absurd (omega arith)
+nine-long (ranges rs) h e = absurd (omega arith)
+nine-long (location l) h e = refl
+nine-long (other t b) h e = absurd (h .1 .2 e)
+
+-- of the one or the other
+else-one : (a b : Option Part) (p : Part) → orElse a b ≡ some p → (a ≡ some p) ⊎ (b ≡ some p)
+unfolding orElse
+else-one none b p e = inr e
+else-one (some q) b p e = inl e
+
+cond-one : (c : Bool) (a : Option Part) (p : Part) → cond c a none ≡ some p → a ≡ some p
+cond-one true a p e = e
+cond-one false a p e = absurd (let z : _≡_ {A = ℕ} 0 1 = cc in omega arith)
+
+module _ (s : List ℕ) where
+  content-stands : (l : Loop) (o : ℕ) → Stands s (part o (loopWritten l)) → Stands s (part (o + 2) (contentWritten (l .descriptors)))
+  unfolding bytesOf
+  content-stands l o t =
+      stands-second s o (bytesOf 2 (2 ^ 12 * l .reserved4 + length (contentWritten (l .descriptors)))) (contentWritten (l .descriptors)) t
+
+  nine-stands : (o : ℕ) (ds : List Descriptor) → ((d : Descriptor) → List·Memᴰ d ds → Fits d) → Stands s (part o (contentWritten ds))
+      → (p : Part) → locationIn o ds ≡ some p → Nine s p
+  unfolding locationIn flatten
+  nine-stands o [] f t p e = absurd (let z : _≡_ {A = ℕ} 0 1 = cc in omega arith)
+  nine-stands o (d ∷ ds) f t p e =
+      go (eqb (tagOf d) 0x13) refl e
+      (nine-stands (o + length (descriptorWritten d)) ds (λ x m. f x (List·Memᴰ·tail m))
+      (stands-second s o (descriptorWritten d) (contentWritten ds) t) p)
+    where
+      go : (b : Bool) → eqb (tagOf d) 0x13 ≡ b
+          → cond b (some (part (o + 2) (bodyWritten d))) (locationIn (o + length (descriptorWritten d)) ds) ≡ some p
+          → (locationIn (o + length (descriptorWritten d)) ds ≡ some p → Nine s p) → Nine s p
+      go true q e ih =
+          let here : part (o + 2) (bodyWritten d) ≡ p = cc in
+          let first = stands-first s o (descriptorWritten d) (contentWritten ds) t in
+          rw (← here)
+          (record {
+            stands = stands-behind s (part o (descriptorWritten d)) 2 (omega arith) first;
+            long = nine-long d (f d (List·Memᴰ·head refl) .held) (eqb-true _ _ q);
+          })
+      go false q e ih = ih e
+
+  pairs-stand : (device : ℕ) (general : Option Part) → ((p : Part) → general ≡ some p → Nine s p) → (o : ℕ) (ps : List (Loop × Loop))
+      → ((q : Loop × Loop) → List·Memᴰ q ps → FitsLoop (q .0) × FitsLoop (q .1)) → Stands s (part o (flatten (map pairWritten ps)))
+      → (p : Part) → locationTo device general o ps ≡ some p → Nine s p
+  unfolding locationTo flatten
+  pairs-stand device general g o [] f t p e = absurd (let z : _≡_ {A = ℕ} 0 1 = cc in omega arith)
+  pairs-stand device general g o (x ∷ ps) f t p e =
+      go (else-one _ _ p e)
+      (pairs-stand device general g (o + length (pairWritten x)) ps (λ q m. f q (List·Memᴰ·tail m))
+      (stands-second s o (pairWritten x) (flatten (map pairWritten ps)) t) p)
+    where
+      here : (locationIn (o + length (loopWritten (x .0)) + 2) (x .1 .descriptors) ≡ some p) ⊎ (general ≡ some p) → Nine s p
+      here (inl q) =
+          nine-stands (o + length (loopWritten (x .0)) + 2) (x .1 .descriptors) (f x (List·Memᴰ·head refl) .1 .descriptors)
+          (content-stands (x .1) (o + length (loopWritten (x .0)))
+          (stands-second s o (loopWritten (x .0)) (loopWritten (x .1)) (stands-first s o (pairWritten x) (flatten (map pairWritten ps)) t)))
+          p q
+      here (inr q) = g p q
+
+      go : (cond (covered device (x .0 .descriptors))
+          (orElse (locationIn (o + length (loopWritten (x .0)) + 2) (x .1 .descriptors)) general) none ≡ some p)
+          ⊎ (locationTo device general (o + length (pairWritten x)) ps ≡ some p)
+          → (locationTo device general (o + length (pairWritten x)) ps ≡ some p → Nine s p) → Nine s p
+      go (inl q) ih = here (else-one _ general p (cond-one (covered device (x .0 .descriptors)) _ p q))
+      go (inr q) ih = ih q
+
+-- ---- the answer
+gives : (device : Address) (s : List ℕ) (o : Option Part) → noticeOf device s ≡ noticeAt o → ((p : Part) → o ≡ some p → Nine s p)
+    → Gives device s (Option·elim o foundNobody foundAt)
+unfolding noticeAt Option·elim
+gives device s none e h =
+    record { notice = e; number = ap noticeNumber e; place = ap noticePlace e; given = ap (partOf s) e }
+gives device s (some p) e h =
+    let nine = h p refl in
+    record {
+      notice = e;
+      number = ap noticeNumber e;
+      place = ap noticePlace e;
+      given = ap (partOf s) e ∙ ap (part (p .place)) (stands-bytes s p 9 (nine .long) (nine .stands));
+    }
+
+module _ (n : Notification) (t : Conforms n) where
+  abbrev s : List ℕ
+  s = notificationWritten n
+
+  abbrev pairs : List ℕ
+  pairs = flatten (map pairWritten (n .pairs))
+
+  loops-stand : Stands s (part 12 (loopWritten (n .platform) ++ pairs))
+  unfolding notificationWritten sealed headWritten
+  loops-stand =
+      record {
+        front = headWritten n (length (loopWritten (n .platform) ++ pairs) + 13);
+        back = _;
+        is = append-assoc (headWritten n (length (loopWritten (n .platform) ++ pairs) + 13)) (loopWritten (n .platform) ++ pairs) _;
+        place = refl;
+      }
+
+  general-stands : (p : Part) → locationIn 14 (n .platform .descriptors) ≡ some p → Nine s p
+  general-stands =
+      nine-stands s 14 (n .platform .descriptors) (t .platform .descriptors)
+      (content-stands s (n .platform) 12 (stands-first s 12 (loopWritten (n .platform)) pairs loops-stand))
+
+  pub found-is : (device : Address) → Gives device s (answerTo device n)
+  unfolding answerTo loopsOf placed searched
+  found-is device =
+      gives device s _
+      (unrefused device s (written-is-taken n t)
+      ∙ ap (λ (c : Cut). searched device (placed 12 (c .pieces))) (loops-cut n t)
+      ∙ search-is device (n .platform) (t .platform) (12 + length (loopWritten (n .platform))) (n .pairs) (t .pairs))
+      (pairs-stand s (deviceNumber device) _ general-stands (12 + length (loopWritten (n .platform))) (n .pairs) (t .pairs)
+      (stands-second s 12 (loopWritten (n .platform)) pairs loops-stand))
 
 pub written-is-found : WrittenIsFound
-unfolding answerTo loopsOf placed searched
-written-is-found device n t =
-    unrefused device (notificationWritten n) (written-is-taken n t)
-    ∙ ap (λ (c : Cut). searched device (placed 12 (c .pieces))) (loops-cut n t)
-    ∙ search-is device (n .platform) (t .platform) (12 + length (loopWritten (n .platform))) (n .pairs) (t .pairs)
+written-is-found device n t = found-is n t device

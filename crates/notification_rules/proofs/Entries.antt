@@ -1,29 +1,20 @@
--- A descriptor's entries are cut back into the addresses that were written; the mask stands before them.
+-- A descriptor's entries are cut back into the addresses that were written, the mask stands before them; other tags have none.
 use Prim.Native.Nat.{ℕ, zero, suc, _+_, _*_, _^_, _≤_, _<_}
 use native.Mathlib.Omega.{arith}
 use mathlib.Core.Path.{_≡_, refl, sym, ap, ap₂, _∙_}
-use mathlib.Core.Bool.{Bool, true}
+use mathlib.Core.Bool.{Bool, true, false}
 use mathlib.Core.List.{List, [], _∷_, _++_, flatten, map, List·Memᴰ}
 use lib.ListN.{length, List·getD-append}
 use lib.Seq.{drop-at}
-use lib.Bits.{bitAnd}
-use lib.Dec.{leb}
-use borrow.Author.Tests.{eq-eqb, le-leb}
+use borrow.Author.Tests.{ne-eqb}
 use Rattle.wire.specs.Bytes.{numberAt}
-use Rattle.wire.specs.Choice.{pick, both}
+use Rattle.wire.specs.Choice.{pick}
 use Rattle.notification_rules.specs.Cut.{Cut, cutOf, any}
-use Rattle.rules.specs.Address.{addressBytes}
-use Rattle.notification_rules.specs.Target.{addressNumber, sameUnder, inRange, entrySize, entryBytes, hit, covers}
-use Rattle.notification_rules.specs.Right.{OwnAddressCovers, MasksCover, RangesCover}
+use Rattle.rules.specs.declared.Address.{Address}
+use Rattle.notification_rules.specs.Target.{macAddress, macAddressRange, sameUnder, inRange, entrySize, entryBytes, hit, covers}
+use Rattle.notification_rules.specs.Loop.{tag}
+use Rattle.notification_rules.proofs.Pieces.{stops, entry-some}
 use Rattle.notification_rules.proofs.Written.{cut-back}
-
-pub own-address-covers : OwnAddressCovers
-unfolding sameUnder inRange addressNumber numberAt both
-own-address-covers device mask =
-    let n = numberAt 6 (addressBytes device) 0 in
-    let m = bitAnd n (numberAt 6 mask 0) in
-    let l : leb n n ≡ true = le-leb n n (omega arith) in
-    (eq-eqb m m refl, rw l)
 
 same-list : (xs : List (List ℕ)) → map (λ x. x) xs ≡ xs
 same-list [] = refl
@@ -48,7 +39,10 @@ unfolding any
 same-tests f g e [] = refl
 same-tests f g e (x ∷ xs) = ap₂ (λ (b r : Bool). pick b true r) (e x) (same-tests f g e xs)
 
-pub masks-cover : MasksCover
+-- a 0x07 covers by one of its addresses, under its mask
+pub masks-cover : (device : Address) (mask : List ℕ) (entries : List (List ℕ)) → length mask ≡ 6
+    → ((e : List ℕ) → List·Memᴰ e entries → length e ≡ 6)
+    → covers device (0x07 ∷ length (mask ++ flatten entries) ∷ (mask ++ flatten entries)) ≡ any (sameUnder device mask) entries
 unfolding covers entryBytes entrySize pick hit sameUnder
 masks-cover device mask xs m h =
     ap (λ (a : List ℕ). any (hit device d) (cutOf (λ _. 6) a .pieces)) (drop-at mask (flatten xs) 6 m)
@@ -61,8 +55,22 @@ masks-cover device mask xs m h =
     same : (e : List ℕ) → hit device (0x07 ∷ length (mask ++ flatten xs) ∷ (mask ++ flatten xs)) e ≡ sameUnder device mask e
     same e = rw (number-front 6 mask (flatten xs) 0 (omega (arith, m)))
 
-pub ranges-cover : RangesCover
+-- a 0x0E by one of its pairs
+pub ranges-cover : (device : Address) (entries : List (List ℕ)) → ((e : List ℕ) → List·Memᴰ e entries → length e ≡ 12)
+    → covers device (0x0E ∷ length (flatten entries) ∷ flatten entries) ≡ any (inRange device) entries
 unfolding covers entryBytes entrySize pick hit
 ranges-cover device xs h =
     ap (any (hit device (0x0E ∷ length (flatten xs) ∷ flatten xs))) (entries-back 12 (omega arith) xs h)
     ∙ same-tests (hit device (0x0E ∷ length (flatten xs) ∷ flatten xs)) (inRange device) (λ e. refl) xs
+
+-- ---- another tag has no entries, and covers nobody
+no-entries : (d : List ℕ) → (tag d ≡ macAddress → ⊥) → (tag d ≡ macAddressRange → ⊥) → entryBytes d ≡ []
+unfolding entryBytes pick
+no-entries d m r = rw (ne-eqb (tag d) macAddress m, ne-eqb (tag d) macAddressRange r)
+
+pub other-covers : (device : Address) (d : List ℕ) → (tag d ≡ macAddress → ⊥) → (tag d ≡ macAddressRange → ⊥) → covers device d ≡ false
+unfolding covers any
+other-covers device d m r =
+    ap (λ (a : List ℕ). any (hit device d) (cutOf (λ _. entrySize (tag d)) a .pieces)) (no-entries d m r)
+    ∙ ap (λ (c : Cut). any (hit device d) (c .pieces)) (stops (λ _. entrySize (tag d)) (λ _. entry-some (tag d)) []
+    (entry-some (tag d)))

@@ -1,12 +1,14 @@
 pub mod Answered
+pub mod Bytes
 pub mod Cuts
 pub mod Entries
+pub mod Exactly
 pub mod Found
 pub mod Meaning
-pub mod Others
 pub mod Parts
 pub mod Pieces
 pub mod Places
+pub mod Reached
 pub mod Rewritten
 pub mod Sound
 pub mod Taken

@@ -5,6 +5,7 @@ use mathlib.Core.Path.{_≡_, refl, sym, ap, _∙_}
 use mathlib.Core.Logic.{_↔_, _≢_, inl, inr}
 use mathlib.Core.Bool.{Bool, true, false, not}
 use mathlib.Core.List.{List, [], _∷_, _++_, map, List·Memᴰ, List·Memᴰ·head, List·Memᴰ·tail}
+use mathlib.Core.Option.{Option, none, some}
 use lib.ListN.{length}
 use lib.Bits.{bitXor}
 use lib.Dec.{eqb, leb}
@@ -22,15 +23,15 @@ use Rattle.rules.proofs.Meaning.{gives-fault}
 use Rattle.notification_rules.specs.declared.Notice.{Notice}
 use Rattle.notification_rules.specs.declared.Notice.the-variants.{Found, Nobody, Refused}
 use Rattle.notification_rules.specs.Cut.{Cut, cutOf, every}
-use Rattle.notification_rules.specs.Format.{bodyWritten, Descriptor, descriptorWritten, Filled, Loop, loopsIn, loopWritten, Short, tagOf}
-use Rattle.notification_rules.specs.Loop.{actionType, bodyLength, content, loopCut, loopsOf, loopSize, pairsOf, platformIdHash, tag}
-use Rattle.notification_rules.specs.Meaning.{Finds, HoldsOther, NotificationMeans, OtherLength}
+use Rattle.notification_rules.specs.Format.{answerTo, Written, bodyWritten, Descriptor, descriptorWritten, Loop, loopWritten, tagOf}
+use Rattle.notification_rules.specs.Loop.{actionType, bodyLength, content, loopCut, loopsOf, loopSize, Pair, pairsOf, platformIdHash, tag}
+use Rattle.notification_rules.specs.Meaning.{Filled, Finds, HoldsOther, NotificationMeans, OtherLength, Short}
 use Rattle.notification_rules.specs.Notice.{chosen, found, known, loopLines, misfit, noticeNumber, noticeOf, notificationForm, otherAction, otherLength, platformLines, refusal, searched, wrongHash}
-use Rattle.notification_rules.specs.Target.{answers, at, Choice, firstPair, Location, locationOf, none, nowhere, one, rightLength}
+use Rattle.notification_rules.specs.Target.{answers, at, firstPair, Location, locationOf, nowhere, rightLength}
 use Rattle.notification_rules.proofs.Answered.{written-is-found}
 use Rattle.notification_rules.proofs.Parts.{every-one}
-use Rattle.notification_rules.proofs.Rewritten.{filled-exactly, taken-exactly}
-use Rattle.notification_rules.proofs.Taken.{descriptors-cut, loop-content, loops-all, loops-back}
+use Rattle.notification_rules.proofs.Rewritten.{filled-exactly, taken-is-written}
+use Rattle.notification_rules.proofs.Taken.{descriptors-cut, loop-content, loopsIn, loops-all, loops-back}
 
 -- ---- 33, of one descriptor
 masked-tells : (n : ℕ) → Tells (both (leb 6 n) (eqb (n % 6) 0)) ((k : ℕ) × (n ≡ 6 + 6 * k))
@@ -126,7 +127,7 @@ module _ (s : List ℕ) where
   unfolding otherLength loopCut
   other-is f =
       let e : loopCut s ≡ record { pieces = map loopWritten (all f); left = [] } =
-      ap (cutOf loopSize) (sym (f .is)) ∙ loops-back (f .platform) (f .pairs) (loops-all Short (f .platform) (f .pairs) (f .first) (f .others)) in
+      ap (cutOf loopSize) (sym (f .is)) ∙ loops-back (f .platform) (f .pairs) (loops-all Short (f .platform) (f .pairs) (f .short) (f .shorts)) in
       ap (λ (c : Cut). not (every (λ l. known (content l)) (c .pieces))) e
       ∙ ap not (every-map (λ l. known (content l)) loopWritten (all f))
 
@@ -179,21 +180,28 @@ isFound (Found p) = true
 isFound Nobody = false
 isFound (Refused n) = false
 
-found-place : (x : Notice) → isFound x ≡ true → (p : ℕ) × (x ≡ Found p)
+-- of a notice that is no refusal
+found-three : (x : Notice) → isFound x ≡ true → noticeNumber x ≡ 3
 unfolding isFound
-found-place (Found p) h = (p, refl)
-found-place Nobody h = absurd (never h)
-found-place (Refused n) h = absurd (never h)
+found-three (Found p) h = refl
+found-three Nobody h = absurd (never h)
+found-three (Refused n) h = absurd (never h)
+
+three-found : (x : Notice) → noticeNumber x ≡ first (isFound x) 3 4 → noticeNumber x ≡ 3 → isFound x ≡ true
+unfolding isFound first
+three-found (Found p) e h = refl
+three-found Nobody e h = absurd (omega arith)
+three-found (Refused n) e h = absurd (omega (arith, sym e ∙ h))
 
 found-number : (l : Location) → noticeNumber (found l) ≡ first (isFound (found l)) 3 4
 unfolding isFound found first
 found-number nowhere = refl
 found-number (at d) = refl
 
-chosen-number : (platform : Part) (x : Choice) → noticeNumber (chosen platform x) ≡ first (isFound (chosen platform x)) 3 4
+chosen-number : (platform : Part) (x : Option Pair) → noticeNumber (chosen platform x) ≡ first (isFound (chosen platform x)) 3 4
 unfolding isFound chosen first
 chosen-number platform none = refl
-chosen-number platform (one x) = found-number (locationOf platform x)
+chosen-number platform (some x) = found-number (locationOf platform x)
 
 searched-number : (device : Address) (ls : List Part) → noticeNumber (searched device ls) ≡ first (isFound (searched device ls)) 3 4
 unfolding isFound searched first
@@ -220,23 +228,17 @@ module _ (device : Address) (s : List ℕ) (b : Bytes s) where
       ∙ ap (orElse lines) (searched-number device (loopsOf s))
 
   finds-tells : refusal s ≡ 0 → Tells (isFound sought) (Finds device s)
-  unfolding isFound noticeOf pick
+  unfolding noticeOf pick
   finds-tells r =
-      let notice : noticeOf device s ≡ sought = rw (eq-eqb (refusal s) 0 r) in (
-        λ p.
-            let n = taken-exactly s b .0 r in
-            let f = found-place sought p in
-            record {
-              value = n .0;
-              conforms = n .1;
-              is = n .2;
-              place = f .0;
-              found = sym (written-is-found device (n .0) (n .1)) ∙ ap (noticeOf device) (n .2) ∙ notice ∙ f .1;
-            },
-        λ w. ap isFound (sym notice ∙ ap (noticeOf device) (sym (w .is)) ∙ written-is-found device (w .value) (w .conforms) ∙ w .found),
+      let notice : noticeOf device s ≡ sought = rw (eq-eqb (refusal s) 0 r) in
+      let number : (w : Written s) → noticeNumber sought ≡ answerTo device (w .value) .number =
+      λ w. ap noticeNumber (sym notice ∙ ap (noticeOf device) (sym (w .is))) ∙ written-is-found device (w .value) (w .conforms) .number in (
+        λ p. let w = taken-is-written s b r in record { written = w; found = sym (number w) ∙ found-three sought p },
+        λ w. three-found sought (searched-number device (loopsOf s)) (number (w .written) ∙ w .found),
       )
 
-  nothing-refused : fault notificationForm s ≡ 0 → otherAction s ≡ false → wrongHash s ≡ false → misfit s ≡ false → otherLength s ≡ false → refusal s ≡ 0
+  nothing-refused : fault notificationForm s ≡ 0 → otherAction s ≡ false → wrongHash s ≡ false → misfit s ≡ false → otherLength s ≡ false
+      → refusal s ≡ 0
   unfolding refusal fault platformLines loopLines firstOf
   nothing-refused h e30 e31 e32 e33 =
       firstOf-past (faultLines notificationForm s) _ (fault-numbered notificationForm s) h

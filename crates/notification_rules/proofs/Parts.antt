@@ -1,5 +1,5 @@
 -- The pieces of a cut, joined, are the bytes that were cut; so each of them stands where `placed` puts it.
-use Prim.Native.Nat.{ℕ, zero, suc, _+_, _-_, _≤_, _<_}
+use Prim.Native.Nat.{ℕ, zero, suc, _+_, _≤_, _<_}
 use native.Mathlib.Omega.{arith}
 use mathlib.Core.Path.{_≡_, refl, sym, ap, _∙_}
 use mathlib.Core.Bool.{Bool, true, false}
@@ -13,7 +13,6 @@ use Rattle.wire.proofs.Choice.{never}
 use Rattle.wire.specs.Part.{Part, part}
 use Rattle.notification_rules.specs.Cut.{Size, Cut, stop, more, whole, cutOf, every, placed}
 use Rattle.notification_rules.specs.Loop.{descriptorSize, loopSize, descriptorPieces}
-use Rattle.notification_rules.specs.Right.{Stands}
 use Rattle.notification_rules.proofs.Cuts.{whole-true, cut-stop, cut-more}
 use Rattle.notification_rules.proofs.Pieces.{front, descriptor-two, loop-two}
 
@@ -93,54 +92,45 @@ placed-member o (b ∷ bs) p m = go (List·Memᴰ·cases-cons m) (placed-member 
     go (inr n) ih = List·Memᴰ·tail (ih n)
 
 -- ---- where parts stand
--- it stands in s, from o on, and no further than e
-pub record Between (s : List ℕ) (o e : ℕ) (p : Part) : Type 0 where
-  pub stands : Stands s p
-  pub begins : o ≤ p .place
-  pub ends : p .place + length (p .bytes) ≤ e
+-- the part's bytes stand in s at its place: what stands before and behind it
+pub record Stands (s : List ℕ) (p : Part) : Type 0 where
+  pub front : List ℕ
+  pub back : List ℕ
+  pub is : s ≡ front ++ (p .bytes ++ back)
+  pub place : p .place ≡ length front
+
+-- of two that stand side by side, each stands
+pub stands-first : (s : List ℕ) (o : ℕ) (x y : List ℕ) → Stands s (part o (x ++ y)) → Stands s (part o x)
+stands-first s o x y t =
+    record {
+      front = t .front;
+      back = y ++ t .back;
+      is = t .is ∙ ap (λ (l : List ℕ). t .front ++ l) (append-assoc x y (t .back));
+      place = t .place;
+    }
+
+pub stands-second : (s : List ℕ) (o : ℕ) (x y : List ℕ) → Stands s (part o (x ++ y)) → Stands s (part (o + length x) y)
+stands-second s o x y t =
+    record {
+      front = t .front ++ x;
+      back = t .back;
+      is = t .is ∙ ap (λ (l : List ℕ). t .front ++ l) (append-assoc x y (t .back)) ∙ sym (append-assoc (t .front) x (y ++ t .back));
+      place = ap (λ (n : ℕ). n + length x) (t .place) ∙ sym (length-append (t .front) x);
+    }
 
 pub placed-stands : (s : List ℕ) (o : ℕ) (bs : List (List ℕ)) (left : List ℕ) (p : Part)
-    → Stands s (part o (flatten bs ++ left)) → List·Memᴰ p (placed o bs)
-    → Between s o (o + length (flatten bs ++ left)) p
+    → Stands s (part o (flatten bs ++ left)) → List·Memᴰ p (placed o bs) → Stands s p
 unfolding placed flatten
 placed-stands s o [] left p t m = absurd (List·Memᴰ·not-nil m)
-placed-stands s o (b ∷ bs) left p t m = go (List·Memᴰ·cases-cons m) (placed-stands s (o + length b) bs left p further)
+placed-stands s o (b ∷ bs) left p t m =
+    go (List·Memᴰ·cases-cons m) (placed-stands s (o + length b) bs left p (stands-second s o b (flatten bs ++ left) whole))
   where
-    long : length ((b ++ flatten bs) ++ left) ≡ length b + length (flatten bs ++ left)
-    long = ap length (append-assoc b (flatten bs) left) ∙ length-append b (flatten bs ++ left)
+    whole : Stands s (part o (b ++ (flatten bs ++ left)))
+    whole = rw (← append-assoc b (flatten bs) left) t
 
-    further : Stands s (part (o + length b) (flatten bs ++ left))
-    further =
-        record {
-          front = t .front ++ b;
-          back = t .back;
-          is = t .is ∙ ap (λ (l : List ℕ). t .front ++ l)
-              (ap (λ (l : List ℕ). l ++ t .back) (append-assoc b (flatten bs) left)
-              ∙ append-assoc b (flatten bs ++ left) (t .back)) ∙ sym (append-assoc (t .front) b ((flatten bs ++ left) ++ t .back));
-          place = ap (λ (n : ℕ). n + length b) (t .place) ∙ sym (length-append (t .front) b);
-        }
-
-    here : Stands s (part o b)
-    here =
-        record {
-          front = t .front;
-          back = (flatten bs ++ left) ++ t .back;
-          is = t .is ∙ ap (λ (l : List ℕ). t .front ++ l)
-              (ap (λ (l : List ℕ). l ++ t .back) (append-assoc b (flatten bs) left)
-              ∙ append-assoc b (flatten bs ++ left) (t .back));
-          place = t .place;
-        }
-
-    go : (p ≡ part o b) ⊎ List·Memᴰ p (placed (o + length b) bs)
-        → (List·Memᴰ p (placed (o + length b) bs) → Between s (o + length b) (o + length b + length (flatten bs ++ left)) p)
-        → Between s o (o + length ((b ++ flatten bs) ++ left)) p
-    go (inl e) ih = rw e (record { stands = here; begins = omega arith; ends = omega (arith, long) })
-    go (inr n) ih = let r = ih n in record {
-      stands = r .stands;
-      begins = omega (arith, r .begins);
-      ends = omega
-          (arith, r .ends, long);
-    }
+    go : (p ≡ part o b) ⊎ List·Memᴰ p (placed (o + length b) bs) → (List·Memᴰ p (placed (o + length b) bs) → Stands s p) → Stands s p
+    go (inl e) ih = rw e (stands-first s o b (flatten bs ++ left) whole)
+    go (inr n) ih = ih n
 
 -- without its first bytes a part stands as many places later
 pub stands-behind : (s : List ℕ) (p : Part) (k : ℕ) → k ≤ length (p .bytes) → Stands s p
@@ -173,14 +163,3 @@ stands-bytes s p n e t =
     ap (λ (l : List ℕ). take n (drop (p .place) l)) (t .is)
     ∙ ap (λ (l : List ℕ). take n l) (drop-at (t .front) (p .bytes ++ t .back) (p .place) (sym (t .place)))
     ∙ take-at (p .bytes) (t .back) n e
-
--- it ends no later than s
-pub stands-inside : (s : List ℕ) (p : Part) → Stands s p → p .place + length (p .bytes) ≤ length s
-stands-inside s p t = omega (
-  arith,
-  t .place,
-  ap length (t .is),
-  length-append (t .front) (p .bytes ++ t .back),
-  length-append
-      (p .bytes) (t .back),
-)

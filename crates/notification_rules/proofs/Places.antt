@@ -1,29 +1,25 @@
 -- A located descriptor is one of a loop's pieces, the loop one of the section's; a 0x13 that 33 lets pass has nine bytes.
-use Prim.Native.Nat.{ℕ, _+_, _-_, _≤_}
+use Prim.Native.Nat.{ℕ, _+_, _≤_}
 use native.Mathlib.Omega.{arith}
 use native.Mathlib.Decide.{decLe}
 use mathlib.Core.Path.{_≡_, refl, sym, ap, _∙_}
 use mathlib.Core.Bool.{Bool, true, false}
 use mathlib.Core.Logic.{_⊎_, inl, inr}
 use mathlib.Core.List.{List, [], _∷_, _++_, List·Memᴰ, List·Memᴰ·head, List·Memᴰ·tail, List·Memᴰ·not-nil, List·Memᴰ·cases-cons, flatten}
-use lib.ListN.{length, take, drop, length-take, length-drop, take-append-drop, drop-of-length-le}
+use lib.ListN.{length, take, drop, take-append-drop, drop-of-length-le}
 use lib.Seq.{length-take-le}
 use lib.Dec.{eqb}
 use borrow.Author.Tests.{eqb-true}
 use Rattle.wire.specs.Choice.{pick}
-use Rattle.rules.specs.declared.Address.{Address}
 use Rattle.rules.specs.Section.{crcPlace}
-use Rattle.notification_rules.specs.declared.Notice.the-variants.{Found, Refused}
 use Rattle.wire.specs.Part.{Part, part}
 use Rattle.notification_rules.specs.Cut.{Cut, cutOf, placed}
 use Rattle.notification_rules.specs.Loop.{loopSize, descriptorSize, checked, loopCut, loopsOf, content, tag, bodyLength, descriptorPieces, descriptorsOf, Pair, pairsOf}
 use Rattle.notification_rules.specs.Target.{streamLocation, rightLength, at, located}
-use Rattle.notification_rules.specs.Notice.{refusal, searched, noticeOf, known}
-use Rattle.notification_rules.specs.Right.{NoLocation, FirstLocation, FirstAnswer, Stands, NineBytes, PlaceIsRight}
+use Rattle.notification_rules.specs.Notice.{known}
 use Rattle.notification_rules.proofs.Pieces.{loops-stop, loop-two}
-use Rattle.notification_rules.proofs.Parts.{rejoined, descriptor-long, loop-long, every-one, placed-member, placed-stands, stands-behind, stands-longer, stands-inside}
-use Rattle.notification_rules.proofs.Sound.{Sound, sound}
-use Rattle.notification_rules.proofs.Found.{found-exactly, location-at}
+use Rattle.notification_rules.proofs.Parts.{rejoined, descriptor-long, loop-long, every-one, placed-member, placed-stands, Stands, stands-behind, stands-longer}
+use Rattle.notification_rules.proofs.Sound.{Sound}
 
 -- ---- where the located descriptor comes from
 located-one : (ds : List Part) (d : Part) → located ds ≡ at d → List·Memᴰ d ds × (tag (d .bytes) ≡ streamLocation)
@@ -82,7 +78,6 @@ piece-stands h k l m = go (decLe k (length h))
     go (yes g) =
         placed-stands h k (cutOf loopSize (drop k h) .pieces) (cutOf loopSize (drop k h) .left) l
         (rw (rejoined loopSize (drop k h)) (rest-stands h k g)) m
-        .stands
     go (no g) = let w : length h ≤ k = omega arith in absurd (List·Memᴰ·not-nil (rw (no-pieces h k w) at m))
 
 loop-stands : (s : List ℕ) (l : Part) → List·Memᴰ l (loopsOf s) → Stands (checked s) l × (2 ≤ length (l .bytes))
@@ -97,70 +92,25 @@ nine-long : (t n : ℕ) → t ≡ streamLocation → rightLength t n ≡ true �
 unfolding rightLength pick
 nine-long t n e h = eqb-true n 9 (rw e at h)
 
-pub nine-in : (s : List ℕ) (l d : Part) → Sound s → List·Memᴰ l (loopsOf s) → located (descriptorsOf l) ≡ at d → NineBytes s l d
+-- tag, length and nine bytes
+pub record NineBytes (s : List ℕ) (d : Part) : Type 0 where
+  pub stands : Stands s d
+  pub whole : length (d .bytes) ≡ 11
+
+pub nine-in : (s : List ℕ) (l d : Part) → Sound s → List·Memᴰ l (loopsOf s) → located (descriptorsOf l) ≡ at d → NineBytes s d
 unfolding descriptorsOf loopsOf known descriptorSize
 nine-in s l d ok m e =
     let o = located-one (placed (l .place + 2) (descriptorPieces (content (l .bytes)))) d e in
     let t = loop-stands s l m in
-    let b = stands-behind (checked s) l 2 (t .1) (t .0) in
     let c = cutOf descriptorSize (content (l .bytes)) in
-    let f : Stands (checked s) (part (l .place + 2) (flatten (c .pieces) ++ c .left)) = rw
-    (rejoined descriptorSize (content (l .bytes))) b in
-    let r = placed-stands (checked s) (l .place + 2) (c .pieces) (c .left) d f (o .0) in
+    let f : Stands (checked s) (part (l .place + 2) (flatten (c .pieces) ++ c .left)) =
+    rw (rejoined descriptorSize (content (l .bytes))) (stands-behind (checked s) l 2 (t .1) (t .0)) in
     let k = every-one (λ y. known (content y)) (loopCut s .pieces) (l .bytes) (ok .right)
     (placed-member 12 (loopCut s .pieces) l m) in
     let u = placed-member (l .place + 2) (c .pieces) d (o .0) in
     let n = nine-long (tag (d .bytes)) (bodyLength (d .bytes)) (o .1)
     (every-one (λ y. rightLength (tag y) (bodyLength y)) (c .pieces) (d .bytes) k u) in
-    let w : length (d .bytes) ≡ 11 = omega (arith, descriptor-long (content (l .bytes)) (d .bytes) u, n) in
     record {
-      ofSection = m;
-      ofLoop = o .0;
-      loopStands = stands-longer s (crcPlace s) l (t .0);
-      stands = stands-longer s (crcPlace s) d (r .stands);
-      tagged = o .1;
-      nine = n;
-      whole = w;
-      begins = r .begins;
-      ends = omega (arith, r .ends, w, t .1, ap length (rejoined descriptorSize (content (l .bytes))), length-drop 2 (l .bytes));
-      before = omega (arith, stands-inside (checked s) l (t .0), length-take (crcPlace s) s);
+      stands = stands-longer s (crcPlace s) d (placed-stands (checked s) (l .place + 2) (c .pieces) (c .left) d f (o .0));
+      whole = omega (arith, descriptor-long (content (l .bytes)) (d .bytes) u, n);
     }
-
-not-refused : (device : Address) (s : List ℕ) (p : ℕ) → noticeOf device s ≡ Found p → refusal s ≡ 0
-unfolding noticeOf pick
-not-refused device s p h = go (eqb (refusal s) 0) refl h
-  where
-    go : (b : Bool) → eqb (refusal s) 0 ≡ b → pick b (searched device (loopsOf s)) (Refused (refusal s)) ≡ Found p → refusal s ≡ 0
-    go true e h = eqb-true (refusal s) 0 e
-    go false e h = absurd (let z : _≡_ {A = ℕ} 0 1 = cc in omega arith)
-
-pub place-is-right : PlaceIsRight
-place-is-right device s p h = go (a .located)
-  where
-    z : refusal s ≡ 0
-    z = not-refused device s p h
-
-    a : FirstAnswer device s p
-    a = found-exactly device s p z .0 h
-
-    go : FirstLocation (a .pair .operational) (a .location)
-        ⊎ (NoLocation (a .pair .operational) × FirstLocation (a .platform) (a .location))
-        → (l : Part) × (d : Part) × NineBytes s l d × (p ≡ d .place + 2)
-    go (inl e) =
-        let m : List·Memᴰ (a .pair .operational) (loopsOf s) =
-        rw (a .cut) (List·Memᴰ·tail (operational-one (a .loops) (a .pair)
-        (rw (a .split) (split-one (a .earlier) (a .later) (a .pair))))) in (
-          a .pair .operational,
-          a .location,
-          nine-in s (a .pair .operational) (a .location) (sound s z) m
-              (location-at (a .pair .operational) (a .location) e),
-          a .place,
-        )
-    go (inr e) =
-        let m : List·Memᴰ (a .platform) (loopsOf s) = rw (a .cut) (List·Memᴰ·head refl) in (
-          a .platform,
-          a .location,
-          nine-in s (a .platform) (a .location) (sound s z) m
-              (location-at (a .platform) (a .location) (e .1)),
-          a .place,
-        )

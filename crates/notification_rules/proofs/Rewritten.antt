@@ -1,14 +1,14 @@
--- What is taken is what table 13 writes: each descriptor, each loop and the first 12 bytes are read as values, and written they are the same bytes.
+-- What is taken is what table 13 writes: each descriptor, each loop and the first 12 bytes are read as values, and these write the same bytes.
 use Prim.Native.Nat.{ℕ, zero, suc, _+_, _*_, _-_, _/_, _%_, _^_, _≤_, _<_}
 use native.Mathlib.Nat.{div-div-eq-div-mul, suc-mul}
 use native.Mathlib.Decide.{decLt, ℕ-discrete}
 use native.Mathlib.Omega.{arith}
 use mathlib.Core.Path.{_≡_, refl, sym, ap, ap₂, _∙_}
-use mathlib.Core.Logic.{_⊎_, inl, inr}
+use mathlib.Core.Logic.{_↔_, _⊎_, inl, inr}
 use mathlib.Core.Bool.{Bool, true, false, not}
 use mathlib.Core.List.{List, [], _∷_, _++_, append-nil, flatten, map, List·Memᴰ, List·Memᴰ·head, List·Memᴰ·tail, List·Memᴰ·not-nil, List·Memᴰ·cases-cons}
 use lib.ListN.{length, take, drop, length-drop, take-append-drop, List·getD-append, List·getD-eq-default}
-use lib.Seq.{getD-append-add, length-take-le, take-all, take-take}
+use lib.Seq.{drop-drop, getD-append-add, length-take-le, take-add, take-all, take-take}
 use Rattle.wire.specs.Bytes.{Bytes, byteAt, bytesOf, bits, numberAt}
 use Rattle.wire.proofs.Bytes.{bytesOf-numberAt, numberAt-lt}
 use Rattle.wire.proofs.Choice.{never}
@@ -25,10 +25,11 @@ use Rattle.notification_rules.specs.Cut.{Size, cutOf, isNil, odd}
 use Rattle.notification_rules.specs.Loop.{actionType, body, bodyLength, content, descriptorPieces, descriptorSize, filled, loopCut, loopSize, platformIdHash, tag}
 use Rattle.notification_rules.specs.Target.{rightLength}
 use Rattle.notification_rules.specs.Notice.{fits, known, misfit, notificationForm, otherAction, platformLines, loopLines, refusal, wrongHash}
-use Rattle.notification_rules.specs.Format.{byTurns, loopsIn, Descriptor, masked, ranges, location, other, Loop, Notification, tagOf, rangeWritten, bodyWritten, descriptorWritten, contentWritten, loopWritten, loopsWritten, headWritten, notificationWritten, Held, Fits, FitsLoop, Conforms, Short, Filled, FilledExactly, TakenExactly}
+use Rattle.notification_rules.specs.Format.{Descriptor, masked, ranges, location, other, Loop, Notification, tagOf, rangeWritten, nineWritten, bodyWritten, descriptorWritten, contentWritten, loopWritten, loopsWritten, headWritten, notificationWritten, Held, Fits, FitsLoop, Conforms, Written}
+use Rattle.notification_rules.specs.Meaning.{byTurns, Filled, Short}
 use Rattle.notification_rules.proofs.Parts.{descriptor-long, every-one, loop-long, rejoined}
 use Rattle.notification_rules.proofs.Sound.{sound}
-use Rattle.notification_rules.proofs.Taken.{every-filled, loops-all, loops-back, loops-in, turns-odd, written-is-taken}
+use Rattle.notification_rules.proofs.Taken.{every-filled, loopsIn, loops-all, loops-back, loops-in, turns-odd}
 
 -- ---- bytes of a part
 bytes-left : (a b : List ℕ) → Bytes (a ++ b) → Bytes a
@@ -100,6 +101,26 @@ twelve b h l =
       holds = (low .holds, high .holds);
     }
 
+-- two stretches side by side
+stretch : (b : List ℕ) (i n m : ℕ) → take n (drop i b) ++ take m (drop (i + n) b) ≡ take (n + m) (drop i b)
+stretch b i n m = ap (λ (l : List ℕ). take n (drop i b) ++ take m l) (sym (drop-drop n i b)) ∙ sym (take-add n m (drop i b))
+
+nine : (b : List ℕ) → Bytes b → length b ≡ 9 → Read nineWritten (λ l. Held (location l)) b
+nine b h l =
+    let two : (i : ℕ) → i + 2 ≤ 9 → bytesOf 2 (numberAt 2 b i) ≡ take 2 (drop i b) = λ i g. bytesOf-numberAt 2 b i h (omega arith) in
+    record {
+      value = record {
+        networkId = numberAt 2 b 0;
+        originalNetworkId = numberAt 2 b 2;
+        transportStreamId = numberAt 2 b 4;
+        serviceId = numberAt 2 b 6;
+        componentTag = numberAt 1 b 8;
+      };
+      is = rw (two 0 (omega arith), two 2 (omega arith), two 4 (omega arith), two 6 (omega arith), bytesOf-numberAt 1 b 8 h (omega arith))
+          (rw (stretch b 6 2 1, stretch b 4 2 3, stretch b 2 2 5, stretch b 0 2 7) (take-all 9 b (omega arith)));
+      holds = (numberAt-lt 2 b 0 h, numberAt-lt 2 b 2 h, numberAt-lt 2 b 4 h, numberAt-lt 2 b 6 h, numberAt-lt 1 b 8 h);
+    }
+
 -- ---- one descriptor
 record Typed (t : ℕ) (b : List ℕ) : Type 0 where
   value : Descriptor
@@ -129,8 +150,8 @@ typed t b ht hb r = go (ℕ-discrete t 0x07) (ℕ-discrete t 0x0E) (ℕ-discrete
         let all = read-all rangeWritten (λ r. (r .0 < 2 ^ 48) × (r .1 < 2 ^ 48)) 12 twelve (length b / 12) b hb (omega arith) in
         record { value = ranges (all .value); tag = sym e; body = all .is; held = all .holds }
     go (no x) (no y) (yes e) =
-        let nine : length b ≡ 9 = eqb-true _ _ (rw e at r) in
-        record { value = location b; tag = sym e; body = refl; held = (nine, hb) }
+        let l = nine b hb (eqb-true _ _ (rw e at r)) in
+        record { value = location (l .value); tag = sym e; body = l .is; held = l .holds }
     go (no x) (no y) (no z) = record { value = other t b; tag = refl; body = refl; held = (ht, (x, y, z), hb) }
 
 -- ---- the descriptors of a loop
@@ -306,7 +327,8 @@ module _ (s : List ℕ) (b : Bytes s) (f : fits (loopCut s) ≡ true) where
         holds = rw (ts .2) at (ls .2);
       }
 
-pub filled-exactly : FilledExactly
+-- 32 is met exactly where the bytes are not so
+pub filled-exactly : (s : List ℕ) → Bytes s → (misfit s ≡ false) ↔ Filled s
 unfolding misfit fits loopCut both
 filled-exactly s b = (there, back)
   where
@@ -316,8 +338,8 @@ filled-exactly s b = (there, back)
         record {
           platform = t .platform;
           pairs = t .pairs;
-          first = t .holds (t .platform) (List·Memᴰ·head refl);
-          others = pairs-all Short (t .pairs) (λ l m. t .holds l (List·Memᴰ·tail m));
+          short = t .holds (t .platform) (List·Memᴰ·head refl);
+          shorts = pairs-all Short (t .pairs) (λ l m. t .holds l (List·Memᴰ·tail m));
           is = t .is;
         }
 
@@ -325,7 +347,7 @@ filled-exactly s b = (there, back)
     back f =
         let e : loopCut s ≡ record { pieces = map loopWritten (loopsIn (f .platform) (f .pairs)); left = [] } =
         ap (cutOf loopSize) (sym (f .is))
-        ∙ loops-back (f .platform) (f .pairs) (loops-all Short (f .platform) (f .pairs) (f .first) (f .others)) in
+        ∙ loops-back (f .platform) (f .pairs) (loops-all Short (f .platform) (f .pairs) (f .short) (f .shorts)) in
         rw (e, turns-odd (f .platform) (f .pairs), every-filled (loopsIn (f .platform) (f .pairs)))
 
 -- ---- what each of 12 to 18, 30 and 31 says
@@ -392,7 +414,8 @@ versionByte x hx h0 =
     let top : x / 64 % 4 ≡ x / 64 = omega arith in
     rw top (omega arith)
 
-three : (x y z : ℕ) → x < 256 → y < 256 → z < 256 → (bits 23 16 (x * 65536 + (y * 256 + z)) ≡ x) × (bits 15 8 (x * 65536 + (y * 256 + z)) ≡ y) × (bits 7 0 (x * 65536 + (y * 256 + z)) ≡ z)
+three : (x y z : ℕ) → x < 256 → y < 256 → z < 256
+    → (bits 23 16 (x * 65536 + (y * 256 + z)) ≡ x) × (bits 15 8 (x * 65536 + (y * 256 + z)) ≡ y) × (bits 7 0 (x * 65536 + (y * 256 + z)) ≡ z)
 three x y z hx hy hz =
     let a : (x * 65536 + (y * 256 + z)) / 65536 ≡ x = omega arith in
     let b : (x * 65536 + (y * 256 + z)) / 256 ≡ x * 256 + y = omega arith in
@@ -419,11 +442,11 @@ module _ (s : List ℕ) (b : Bytes s) (p : refusal s ≡ 0) where
       record {
         reserved3 = bits 6 4 (byteAt s 1);
         reserved2 = bits 7 6 (byteAt s 5);
-        version = bits 5 1 (byteAt s 5);
-        number = byteAt s 6;
-        last = byteAt s 7;
+        versionNumber = bits 5 1 (byteAt s 5);
+        sectionNumber = byteAt s 6;
+        lastSectionNumber = byteAt s 7;
         platformId = numberAt 3 s 8;
-        order = byteAt s 11;
+        processingOrder = byteAt s 11;
         platform = t .platform;
         pairs = t .pairs;
       }
@@ -483,12 +506,13 @@ module _ (s : List ℕ) (b : Bytes s) (p : refusal s ≡ 0) where
         version = omega arith;
         order = b 11;
         platformId = numberAt-lt 3 s 8 b;
-        last = b 7;
+        highest = b 7;
         number = f .order;
         platform = t .holds (t .platform) (List·Memᴰ·head refl);
         pairs = pairs-all FitsLoop (t .pairs) (λ l m. t .holds l (List·Memᴰ·tail m));
         size = rw written (f .short);
       }
 
-pub taken-exactly : TakenExactly
-taken-exactly s b = (λ p. (n s b p, conforms s b p, written s b p), λ t. rw (t .2) at (written-is-taken (t .0) (t .1)))
+-- what no line applies to is what table 13 writes
+pub taken-is-written : (s : List ℕ) → Bytes s → refusal s ≡ 0 → Written s
+taken-is-written s b p = record { value = n s b p; conforms = conforms s b p; is = written s b p }

@@ -21,7 +21,8 @@ use Rattle.notification_rules.specs.Cut.{Cut, cutOf, every, odd}
 use Rattle.notification_rules.specs.Loop.{actionType, platformIdHash, content, tag, bodyLength, descriptorSize, loopSize, loopCut, filled}
 use Rattle.notification_rules.specs.Target.{macAddress, macAddressRange, streamLocation, rightLength}
 use Rattle.notification_rules.specs.Notice.{notificationForm, otherAction, wrongHash, fits, misfit, known, otherLength, platformLines, loopLines, refusal}
-use Rattle.notification_rules.specs.Format.{Descriptor, masked, ranges, location, other, Loop, Notification, tagOf, rangeWritten, bodyWritten, descriptorWritten, contentWritten, loopWritten, pairWritten, loopsWritten, byTurns, loopsIn, headWritten, notificationWritten, Held, Fits, FitsLoop, Conforms, Short}
+use Rattle.notification_rules.specs.Format.{Descriptor, masked, ranges, location, other, Loop, Notification, tagOf, rangeWritten, bodyWritten, descriptorWritten, contentWritten, loopWritten, pairWritten, loopsWritten, headWritten, notificationWritten, Held, Fits, FitsLoop, Conforms}
+use Rattle.notification_rules.specs.Meaning.{byTurns, Short}
 use Rattle.notification_rules.proofs.Pieces.{descriptor-two, loop-two}
 use Rattle.notification_rules.proofs.Written.{cut-back}
 
@@ -40,7 +41,7 @@ twelves [] = refl
 twelves (r ∷ rs) = omega (arith, length-append (rangeWritten r) (flatten (map rangeWritten rs)), range-length r, twelves rs)
 
 right-length : (d : Descriptor) → Held d → rightLength (tagOf d) (length (bodyWritten d)) ≡ true
-unfolding rightLength pick bodyWritten
+unfolding rightLength pick bodyWritten bytesOf
 right-length (masked mask xs) h =
     let b : List ℕ = bytesOf 6 mask ++ flatten (map (bytesOf 6) xs) in
     let n : length b ≡ 6 + 6 * length xs =
@@ -51,7 +52,7 @@ right-length (masked mask xs) h =
 right-length (ranges rs) h =
     let even : length (flatten (map rangeWritten rs)) % 12 ≡ 0 = omega (arith, twelves rs) in
     eq-eqb _ 0 even
-right-length (location b) h = eq-eqb (length b) 9 (h .0)
+right-length (location l) h = refl
 right-length (other t b) h =
     rw (ne-eqb t macAddress (h .1 .0), ne-eqb t macAddressRange (h .1 .1), ne-eqb t streamLocation (h .1 .2))
 
@@ -101,6 +102,9 @@ unfolding filled
 loop-filled l = rw (loop-content l, descriptors-cut (l .descriptors))
 
 -- ---- the loops
+abbrev pub loopsIn : Loop → List (Loop × Loop) → List Loop
+loopsIn platform pairs = platform ∷ byTurns pairs
+
 turns-written : (ps : List (Loop × Loop)) → flatten (map pairWritten ps) ≡ flatten (map loopWritten (byTurns ps))
 unfolding flatten byTurns
 turns-written [] = refl
@@ -250,11 +254,11 @@ module _ (n : Notification) (t : Conforms n) where
 
   no17 : notCurrent s ≡ false
   unfolding notCurrent currentNextIndicator notificationWritten sealed headWritten
-  no17 = let e : bit 0 (2 ^ 6 * n .reserved2 + 2 * n .version + 1) ≡ 1 = omega arith in ap (λ (b : ℕ). eqb b 0) e
+  no17 = let e : bit 0 (2 ^ 6 * n .reserved2 + 2 * n .versionNumber + 1) ≡ 1 = omega arith in ap (λ (b : ℕ). eqb b 0) e
 
   no18 : outOfOrder s ≡ false
   unfolding outOfOrder sectionNumber lastSectionNumber notificationWritten sealed headWritten
-  no18 = le-ltb (n .last) (n .number) (t .number)
+  no18 = le-ltb (n .lastSectionNumber) (n .sectionNumber) (t .number)
 
   no30 : otherAction s ≡ false
   unfolding otherAction actionType notificationWritten sealed headWritten

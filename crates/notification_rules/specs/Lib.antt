@@ -2,6 +2,5 @@ pub mod Cut
 pub mod Loop
 pub mod Target
 pub mod Notice
-pub mod Right
 pub mod Format
 pub mod Meaning

@@ -1,59 +1,66 @@
--- What each number means, in document 01's order and words: 'The INT section'. By bytes, bits, lengths and what table 13 writes, with none of
--- the reader's own tests. A theorem, shown in proofs/Meaning.antt.
-use Prim.Native.Nat.{ℕ, _+_, _*_, _-_, _<_}
+-- What each number means, in document 01's order and words: 'The INT section'. By bytes, bits, lengths and what table 13 writes, with none
+-- of the reader's own tests. A theorem, shown in proofs/Meaning.antt.
+use Prim.Native.Nat.{ℕ, _+_, _*_, _-_, _^_, _<_}
 use mathlib.Core.Path.{_≡_}
 use mathlib.Core.Logic.{_↔_, _≢_, _⊎_}
-use mathlib.Core.List.{List, [], _∷_, List·Memᴰ}
-use lib.ListN.{length, take}
+use mathlib.Core.List.{List, [], _∷_, _++_, List·Memᴰ}
+use lib.ListN.{length, take, drop}
 use lib.Bits.{bitXor}
-use Rattle.wire.specs.Bytes.{bit, byteAt, Bytes, numberAt}
+use Rattle.wire.specs.Bytes.{bit, byteAt, Bytes}
 use Rattle.wire.specs.Meaning.{FirstThat, otherwise, Row, _means_}
 use Rattle.rules.specs.declared.Address.{Address}
-use Rattle.rules.specs.Crc.{crc32}
-use Rattle.rules.specs.Section.{sectionLength}
-use Rattle.notification_rules.specs.declared.Notice.the-variants.{Found}
-use Rattle.notification_rules.specs.Format.{answerTo, bodyWritten, Conforms, Descriptor, Filled, Loop, loopsIn, Notification, notificationWritten, tagOf}
+use Rattle.rules.specs.Meaning.{sharedRows}
+use Rattle.notification_rules.specs.Format.{answerTo, bodyWritten, contentWritten, Descriptor, Loop, loopsWritten, tagOf, Written}
 use Rattle.notification_rules.specs.Notice.{noticeNumber, noticeOf}
 
+-- ---- 32: the bytes from 12 up to the CRC_32 are loops by turns, which descriptors of any length fill
+-- its length fits 12 bits
+abbrev pub Short : Loop → Type 0
+Short l = length (contentWritten (l .descriptors)) < 2 ^ 12
+
+pub record Filled (s : List ℕ) : Type 0 where
+  pub platform : Loop
+  pub pairs : List (Loop × Loop)
+  pub short : Short platform
+  pub shorts : (p : Loop × Loop) → List·Memᴰ p pairs → Short (p .0) × Short (p .1)
+  pub is : loopsWritten platform pairs ≡ drop 12 (take (length s - 4) s)
+
+-- ---- 33: of these descriptors a known one has another length
 -- 0x07 has 6 bytes and 6 for each address, 0x0E 12 for each pair, 0x13 has 9
 abbrev pub OtherLength : ℕ → ℕ → Type 0
 OtherLength tag n =
     ((tag ≡ 0x07) × (¬ ((k : ℕ) × (n ≡ 6 + 6 * k)))) ⊎ ((tag ≡ 0x0E) × (¬ ((k : ℕ) × (n ≡ 12 * k)))) ⊎ ((tag ≡ 0x13) × (n ≢ 9))
 
--- of the descriptors that fill the section a known one has another length
+-- the loops of these pairs, one after the other
+unfoldable pub byTurns : List (Loop × Loop) → List Loop
+byTurns [] = []
+byTurns (p ∷ ps) = p .0 ∷ p .1 ∷ byTurns ps
+
 pub record HoldsOther (s : List ℕ) : Type 0 where
   pub filled : Filled s
   pub loop : Loop
-  pub inside : List·Memᴰ loop (loopsIn (filled .platform) (filled .pairs))
+  pub inside : List·Memᴰ loop (filled .platform ∷ byTurns (filled .pairs))
   pub descriptor : Descriptor
   pub there : List·Memᴰ descriptor (loop .descriptors)
   pub other : OtherLength (tagOf descriptor) (length (bodyWritten descriptor))
 
--- table 13 writes the section for a value in which the device is found
+-- ---- 3: table 13 writes the section for a value in which the device is found
 pub record Finds (device : Address) (s : List ℕ) : Type 0 where
-  pub value : Notification
-  pub conforms : Conforms value
-  pub is : notificationWritten value ≡ s
-  pub place : ℕ
-  pub found : answerTo device value ≡ Found place
+  pub written : Written s
+  pub found : answerTo device (written .value) .number ≡ 3
 
--- byte 3 is action_type, byte 4 platform_id_hash, bytes 8 to 10 are platform_id; 4 is nobody
+-- ---- 12 to 18 as for the datagram section, private_indicator not looked at; byte 3 is action_type, byte 4 platform_id_hash, bytes 8 to 10 are
+-- platform_id; 4 is nobody
 abbrev pub notificationRows : Address → List ℕ → List Row
 notificationRows device s =
-    12 means (length s < 18)
-    ∷ 13 means (byteAt s 0 ≢ 0x4C)
-    ∷ 14 means ((4093 < sectionLength s) ⊎ (sectionLength s + 3 ≢ length s))
-    ∷ 15 means (bit 7 (byteAt s 1) ≢ 1)
-    ∷ 16 means (numberAt 4 s (length s - 4) ≢ crc32 (take (length s - 4) s))
-    ∷ 17 means (bit 0 (byteAt s 5) ≡ 0)
-    ∷ 18 means (byteAt s 7 < byteAt s 6)
-    ∷ 30 means (byteAt s 3 ≢ 0x01)
+    sharedRows 18 0x4C (bit 7 (byteAt s 1) ≢ 1) s
+    ++ (30 means (byteAt s 3 ≢ 0x01)
     ∷ 31 means (byteAt s 4 ≢ bitXor (bitXor (byteAt s 8) (byteAt s 9)) (byteAt s 10))
     ∷ 32 means (¬ Filled s)
     ∷ 33 means (HoldsOther s)
     ∷ 3 means (Finds device s)
     ∷ 4 means otherwise
-    ∷ []
+    ∷ [])
 
 abbrev pub NotificationMeans : Type 0
 NotificationMeans =

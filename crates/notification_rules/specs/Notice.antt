@@ -3,6 +3,7 @@ use Prim.Native.Nat.{ℕ, _+_}
 use mathlib.Core.Path.{_≡_}
 use mathlib.Core.Bool.{Bool, false, not}
 use mathlib.Core.List.{List, [], _∷_, _++_}
+use mathlib.Core.Option.{Option, none, some}
 use lib.ListN.{take, drop}
 use lib.Bits.{bitXor}
 use lib.Dec.{eqb}
@@ -16,8 +17,8 @@ use Rattle.notification_rules.specs.declared.Notice.{Notice}
 use Rattle.notification_rules.specs.declared.Notice.the-variants.{Found, Nobody, Refused}
 use Rattle.wire.specs.Part.{Part, part, Is}
 use Rattle.notification_rules.specs.Cut.{Cut, isNil, every, odd}
-use Rattle.notification_rules.specs.Loop.{actionType, platformIdHash, loopCut, loopsOf, content, descriptorPieces, filled, tag, bodyLength, pairsOf}
-use Rattle.notification_rules.specs.Target.{rightLength, locationOf, Location, nowhere, at, answers, Choice, none, one, firstPair}
+use Rattle.notification_rules.specs.Loop.{actionType, platformIdHash, loopCut, loopsOf, content, descriptorPieces, filled, tag, bodyLength, Pair, pairsOf}
+use Rattle.notification_rules.specs.Target.{rightLength, locationOf, Location, nowhere, at, answers, firstPair}
 
 -- 12 to 18 as for every table; bit 6 of byte 1 is not looked at
 abbrev pub notificationForm : Form
@@ -64,9 +65,9 @@ unfoldable pub found : Location → Notice
 found nowhere = Nobody
 found (at d) = Found (d .place + 2)
 
-unfoldable pub chosen : Part → Choice → Notice
+unfoldable pub chosen : Part → Option Pair → Notice
 chosen platform none = Nobody
-chosen platform (one x) = found (locationOf platform x)
+chosen platform (some x) = found (locationOf platform x)
 
 -- the search over the pairs stops at the first that covers the device and has a location
 unfoldable pub searched : Address → List Part → Notice

@@ -2,6 +2,7 @@
 use Prim.Native.Nat.{ℕ, _%_}
 use mathlib.Core.Bool.{Bool, true, false}
 use mathlib.Core.List.{List, [], _∷_}
+use mathlib.Core.Option.{Option, none, some}
 use lib.ListN.{drop}
 use lib.Bits.{bitAnd}
 use lib.Dec.{leb, eqb}
@@ -102,11 +103,7 @@ locationOf platform x = orElse (located (descriptorsOf (x .operational))) (locat
 unfoldable pub answers : Address → Part → Pair → Bool
 answers device platform x = both (isCover (coverOf device (x .target))) (isLocation (locationOf platform x))
 
-pub data Choice : Type 0 where
-  none : Choice
-  one : Pair → Choice
-
 -- the first pair that passes a test
-unfoldable pub firstPair : (Pair → Bool) → List Pair → Choice
+unfoldable pub firstPair : (Pair → Bool) → List Pair → Option Pair
 firstPair f [] = none
-firstPair f (x ∷ xs) = pick (f x) (one x) (firstPair f xs)
+firstPair f (x ∷ xs) = pick (f x) (some x) (firstPair f xs)

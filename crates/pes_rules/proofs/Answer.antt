@@ -5,15 +5,12 @@ use mathlib.Core.Path.{_≡_, refl}
 use mathlib.Core.List.{List}
 use mathlib.Core.Bool.{Bool, true, false}
 use lib.ListN.{length}
-use lib.Seq.{slice}
 use lib.Dec.{eqb}
-use borrow.Author.Tests.{eq-eqb, eqb-true, ltb-false}
-use Rattle.wire.specs.Bytes.{byteAt, bits, numberAt}
+use borrow.Author.Tests.{eq-eqb, eqb-true, ltb-false, ne-eqb}
 use Rattle.wire.specs.Choice.{pick, first, firstOf}
 use Rattle.wire.proofs.Choice.{either-false}
 use Rattle.pes_rules.specs.declared.Reading.{Reading}
-use Rattle.pes_rules.specs.Packet.{dataIdentifier, subStreamId, ptsExtensionFlag, outputDataRateFlag, flagged, ptsExtension, ratePlace, outputDataRate, privatePlace, dataPlace, wrongSize, otherIdentifier, wrongFlags, wrongHeaderLength, fault, refused, taken, readOf}
-use Rattle.pes_rules.specs.Written.{Values, valuesOf}
+use Rattle.pes_rules.specs.Packet.{dataPlace, wrongSize, otherIdentifier, wrongFlags, wrongHeaderLength, fault, refused, taken, readOf}
 
 -- ---- the table
 pub record None (s : List ℕ) : Type 0 where
@@ -64,26 +61,9 @@ pub read-taken : (s : List ℕ) → fault s ≡ 0 → readOf s ≡ taken s
 unfolding readOf pick
 read-taken s e = rw (eq-eqb (fault s) 0 e)
 
--- the values of a packet that no line applies to
-abbrev pub takenValues : List ℕ → Values
-takenValues s =
-    record {
-      dataIdentifier = dataIdentifier s;
-      subStreamId = subStreamId s;
-      ptsExtensionFlag = ptsExtensionFlag s;
-      outputDataRateFlag = outputDataRateFlag s;
-      reserved2 = bits 5 4 (byteAt s 2);
-      reserved7 = flagged (ptsExtensionFlag s) (bits 15 9 (numberAt 2 s 3));
-      ptsExtension = ptsExtension s;
-      reserved4 = flagged (outputDataRateFlag s) (bits 31 28 (numberAt 4 s (ratePlace s)));
-      outputDataRate = outputDataRate s;
-      privateBytes = slice (privatePlace s) (dataPlace s) s;
-      dataBytes = slice (dataPlace s) (length s) s;
-    }
-
-pub values-taken : (s : List ℕ) → fault s ≡ 0 → valuesOf s ≡ takenValues s
-unfolding valuesOf
-values-taken s e = rw (read-taken s e)
+pub read-refused : (s : List ℕ) → (fault s ≡ 0 → ⊥) → readOf s ≡ refused (fault s)
+unfolding readOf pick
+read-refused s h = rw (ne-eqb (fault s) 0 h)
 
 -- ---- the data's place
 pub within : (s : List ℕ) → None s → dataPlace s ≤ length s

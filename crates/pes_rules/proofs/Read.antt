@@ -6,8 +6,8 @@ use native.Mathlib.Omega.{arith}
 use mathlib.Core.Path.{_≡_, refl, sym, ap, _∙_}
 use mathlib.Core.Logic.{inl, inr}
 use mathlib.Core.List.{List, [], _∷_, _++_}
-use mathlib.Core.Bool.{Bool, true, false, not}
-use lib.ListN.{length, take, drop, length-drop, length-take, take-append-drop}
+use mathlib.Core.Bool.{Bool, true, false, cond, not}
+use lib.ListN.{length, take, drop, length-drop, take-append-drop}
 use lib.Seq.{drop-drop, length-take-le, slice, take-add, take-length}
 use lib.Dec.{eqb, lit<}
 use borrow.Author.Tests.{eqb-true, ltb-false}
@@ -15,10 +15,27 @@ use Rattle.wire.specs.Bytes.{Bytes, byteAt, bits, numberAt, bytesOf}
 use Rattle.wire.proofs.Bytes.{bytesOf-numberAt, numberAt-lt}
 use Rattle.wire.specs.Choice.{pick, both, either}
 use Rattle.wire.proofs.Choice.{either-false, never}
-use Rattle.pes_rules.specs.Packet.{dataIdentifier, ptsExtensionFlag, outputDataRateFlag, pesDataPacketHeaderLength, flagged, ratePlace, privatePlace, dataPlace}
-use Rattle.pes_rules.specs.Written.{Conforms, extensionField, flagsByte, optionalFields, packetOf, rateField, ReadIsWritten, Stream}
-use Rattle.pes_rules.proofs.Answer.{answered, no-fault, None, takenValues, values-taken, within}
+use Rattle.pes_rules.specs.Packet.{dataIdentifier, subStreamId, ptsExtensionFlag, outputDataRateFlag, pesDataPacketHeaderLength, flagged, ptsExtension, ratePlace, outputDataRate, privatePlace, dataPlace, readOf}
+use Rattle.pes_rules.specs.Written.{Conforms, extensionField, flagsByte, optionalFields, packetOf, rateField, Stream, Values, Written}
+use Rattle.pes_rules.proofs.Answer.{answered, no-fault, None, within}
 use Rattle.pes_rules.proofs.Bytes.{slice-bytes, slice-is}
+
+-- the values of a packet that no line applies to
+abbrev takenValues : List ℕ → Values
+takenValues s =
+    record {
+      dataIdentifier = dataIdentifier s;
+      subStreamId = subStreamId s;
+      ptsExtensionFlag = ptsExtensionFlag s;
+      outputDataRateFlag = outputDataRateFlag s;
+      reserved2 = bits 5 4 (byteAt s 2);
+      reserved7 = flagged (ptsExtensionFlag s) (bits 15 9 (numberAt 2 s 3));
+      ptsExtension = ptsExtension s;
+      reserved4 = flagged (outputDataRateFlag s) (bits 31 28 (numberAt 4 s (ratePlace s)));
+      outputDataRate = outputDataRate s;
+      privateBytes = slice (privatePlace s) (dataPlace s) s;
+      dataBytes = slice (dataPlace s) (length s) s;
+    }
 
 -- ---- identifier and flags
 stream-of : (n : ℕ) (e w : Bool) → both (not (eqb n 0x21)) (not (eqb n 0x22)) ≡ false
@@ -36,14 +53,13 @@ stream-of n e w = go (eqb n 0x21) (eqb n 0x22) e w refl refl
     go false false e w a b h k = absurd (never (sym h))
 
 -- ---- flagged numbers
-pub flagged-lt : (flag : Bool) (x k : ℕ) → x < 2 ^ k → flagged flag x < 2 ^ flagged flag k
+flagged-lt : (flag : Bool) (x k : ℕ) → x < 2 ^ k → flagged flag x < 2 ^ cond flag k 0
 unfolding flagged pick
 flagged-lt true x k h = h
 flagged-lt false x k h = lit< tt
 
 -- a flag's bit
-flag-bit : (x n : ℕ) → x < 2 → flagged (eqb x 1) n ≡ x * n
-unfolding flagged pick
+flag-bit : (x n : ℕ) → x < 2 → cond (eqb x 1) n 0 ≡ x * n
 flag-bit zero n h = omega arith
 flag-bit (suc zero) n h = omega arith
 flag-bit (suc (suc x)) n h = absurd (omega arith)
@@ -59,7 +75,7 @@ byte-parts b h =
 -- a field of n bytes at i, its k low bits and those above them put together again
 field-is : (flag : Bool) (n i k high : ℕ) (s : List ℕ) → Bytes s → i + flagged flag n ≤ length s
     → high * 2 ^ k + numberAt n s i % 2 ^ k ≡ numberAt n s i
-    → pick flag (bytesOf n (flagged flag high * 2 ^ k + flagged flag (numberAt n s i % 2 ^ k))) []
+    → cond flag (bytesOf n (flagged flag high * 2 ^ k + flagged flag (numberAt n s i % 2 ^ k))) []
     ≡ take (flagged flag n) (drop i s)
 unfolding flagged pick
 field-is true n i k high s h l e = ap (bytesOf n) e ∙ bytesOf-numberAt n s i h l
@@ -121,8 +137,8 @@ module _ (s : List ℕ) (h : Bytes s) (n : None s) where
   unfolding flagsByte
   flags-is =
       let b : ℕ = byteAt s 2 in
-      let f7 : flagged (ptsExtensionFlag s) 128 ≡ b / 128 % 2 * 128 = flag-bit (b / 128 % 2) 128 (omega arith) in
-      let f6 : flagged (outputDataRateFlag s) 64 ≡ b / 64 % 2 * 64 = flag-bit (b / 64 % 2) 64 (omega arith) in
+      let f7 : cond (ptsExtensionFlag s) 128 0 ≡ b / 128 % 2 * 128 = flag-bit (b / 128 % 2) 128 (omega arith) in
+      let f6 : cond (outputDataRateFlag s) 64 0 ≡ b / 64 % 2 * 64 = flag-bit (b / 64 % 2) 64 (omega arith) in
       rw (f7, f6, header-is) (byte-parts b (h 2))
 
   data-is : slice (dataPlace s) (length s) s ≡ drop (pesDataPacketHeaderLength s) (drop 3 s)
@@ -149,8 +165,7 @@ module _ (s : List ℕ) (h : Bytes s) (n : None s) where
         size = rw written-is short;
       }
 
-pub read-is-written : ReadIsWritten
-read-is-written s h a =
-    let z = answered s a in
-    let n = no-fault s z in
-    record { conforms = rw (values-taken s z) (conforms s h n); written = rw (values-taken s z) (written-is s h n) }
+pub taken-is-written : (s : List ℕ) → Bytes s → readOf s .answer ≡ 5 → Written s
+taken-is-written s h a =
+    let n = no-fault s (answered s a) in
+    record { values = takenValues s; conforms = conforms s h n; is = written-is s h n }

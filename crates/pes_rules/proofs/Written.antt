@@ -1,40 +1,40 @@
 -- The bytes stand where table 1 puts them, so each field reads what was written there, and the lengths say where the parts end.
-use Prim.Native.Nat.{ℕ, _+_, _*_, _-_, _/_, _%_, _^_, _≤_, _<_}
+use Prim.Native.Nat.{ℕ, _+_, _*_, _/_, _%_, _^_, _≤_, _<_}
 use native.Mathlib.Nat.{mod-eq-of-lt}
 use native.Mathlib.Omega.{arith}
-use mathlib.Core.Path.{_≡_, refl, sym, ap, _∙_}
+use mathlib.Core.Path.{_≡_, refl, sym, ap, ap₂, _∙_}
 use mathlib.Core.Logic.{inl, inr}
 use mathlib.Core.List.{List, [], _∷_, _++_, append-assoc}
-use mathlib.Core.Bool.{Bool, true, false, not}
-use lib.Arith.{digits-div, digits-lt, digits-mod, lt-one}
+use mathlib.Core.Bool.{Bool, true, false, cond, not}
+use lib.Arith.{digits-lt, digits-mod, lt-one}
 use lib.ListN.{length, drop, length-append}
-use lib.Seq.{drop-at, slice, take-at, take-length}
+use lib.Seq.{drop-at, slice, take-length}
 use lib.Dec.{eqb, lit<}
 use borrow.Author.Tests.{le-ltb}
-use Rattle.wire.specs.Bytes.{Bytes, byteAt, bits, numberAt, bytesOf}
+use Rattle.wire.specs.Bytes.{Bytes, numberAt, bytesOf}
 use Rattle.wire.specs.Choice.{pick, both, either}
+use Rattle.wire.specs.Part.{part}
 use Rattle.wire.proofs.Bytes.{length-bytesOf, numberAt-bytesOf}
 use Rattle.wire.proofs.Choice.{not-either}
-use Rattle.pes_rules.specs.Packet.{dataIdentifier, subStreamId, ptsExtensionFlag, outputDataRateFlag, pesDataPacketHeaderLength, flagged, ptsExtension, ratePlace, outputDataRate, privatePlace, dataPlace, wrongSize, otherIdentifier, wrongFlags, wrongHeaderLength}
-use Rattle.pes_rules.specs.Written.{Conforms, extensionField, flagsByte, optionalFields, packetOf, rateField, Stream, Values, WrittenIsRead}
-use Rattle.pes_rules.proofs.Answer.{fault-none, None, read-taken, takenValues, values-taken}
+use Rattle.pes_rules.specs.Packet.{dataIdentifier, subStreamId, ptsExtensionFlag, outputDataRateFlag, pesDataPacketHeaderLength, flagged, ptsExtension, ratePlace, outputDataRate, privatePlace, dataPlace, wrongSize, otherIdentifier, wrongFlags, wrongHeaderLength, taken, readOf}
+use Rattle.pes_rules.specs.declared.Reading.{Reading}
+use Rattle.pes_rules.specs.Written.{Conforms, extensionField, flagsByte, optionalFields, packetOf, PacketIsBytes, rateField, readingOf, Stream, Values, WrittenIsRead}
+use Rattle.pes_rules.proofs.Answer.{fault-none, None, read-taken}
 use Rattle.pes_rules.proofs.Bytes.{append-bytes, bytesOf-bytes, cons-bytes}
 
 -- ---- byte 2
-bit-flag : (x : ℕ) (flag : Bool) → x ≡ flagged flag 1 → eqb x 1 ≡ flag
-unfolding flagged pick
+bit-flag : (x : ℕ) (flag : Bool) → x ≡ cond flag 1 0 → eqb x 1 ≡ flag
 bit-flag x true e = rw e refl
 bit-flag x false e = rw e refl
 
 record Parts (b : ℕ) (e w : Bool) (r l : ℕ) : Type 0 where
-  seven : b / 128 % 2 ≡ flagged e 1
-  six : b / 64 % 2 ≡ flagged w 1
+  seven : b / 128 % 2 ≡ cond e 1 0
+  six : b / 64 % 2 ≡ cond w 1 0
   between : b / 16 % 4 ≡ r
   low : b % 16 ≡ l
   fits : b < 256
 
-parts : (e w : Bool) (r l : ℕ) → r < 4 → l < 16 → Parts (flagged e 128 + flagged w 64 + r * 16 + l) e w r l
-unfolding flagged pick
+parts : (e w : Bool) (r l : ℕ) → r < 4 → l < 16 → Parts (cond e 128 0 + cond w 64 0 + r * 16 + l) e w r l
 parts true true r l h k =
     record { seven = omega arith; six = omega arith; between = omega arith; low = omega arith; fits = omega arith }
 parts true false r l h k =
@@ -45,37 +45,28 @@ parts false false r l h k =
     record { seven = omega arith; six = omega arith; between = omega arith; low = omega arith; fits = omega arith }
 
 -- ---- a field of n bytes behind p: j high bits and k low bits
-length-field : (flag : Bool) (n x : ℕ) → length (pick flag (bytesOf n x) []) ≡ flagged flag n
+length-field : (flag : Bool) (n x : ℕ) → length (cond flag (bytesOf n x) []) ≡ flagged flag n
 unfolding flagged pick
 length-field true n x = length-bytesOf n x
 length-field false n x = refl
 
-field-bytes : (flag : Bool) (n x : ℕ) → Bytes (pick flag (bytesOf n x) [])
-unfolding pick
+field-bytes : (flag : Bool) (n x : ℕ) → Bytes (cond flag (bytesOf n x) [])
 field-bytes true n x = bytesOf-bytes n x
 field-bytes false n x = λ i. lit< tt
 
 module _ (n j k high low : ℕ) (p q : List ℕ) (w : 2 ^ j * 2 ^ k ≡ 256 ^ n) where
   abbrev behind : Bool → List ℕ
-  behind flag = p ++ (pick flag (bytesOf n (high * 2 ^ k + low)) [] ++ q)
+  behind flag = p ++ (cond flag (bytesOf n (high * 2 ^ k + low)) [] ++ q)
 
   whole : high < 2 ^ j → low < 2 ^ k
       → numberAt n (p ++ (bytesOf n (high * 2 ^ k + low) ++ q)) (length p) ≡ high * 2 ^ k + low
   whole h l = numberAt-bytesOf n (high * 2 ^ k + low) p q ∙ mod-eq-of-lt (rw (← w) (digits-lt h l))
 
-  low-read : (flag : Bool) → high < 2 ^ flagged flag j → low < 2 ^ flagged flag k
+  low-read : (flag : Bool) → high < 2 ^ cond flag j 0 → low < 2 ^ cond flag k 0
       → flagged flag (numberAt n (behind flag) (length p) % 2 ^ k) ≡ low
   unfolding flagged pick
   low-read true h l = ap (λ (x : ℕ). x % 2 ^ k) (whole h l) ∙ digits-mod high l
   low-read false h l = sym (lt-one l)
-
-  high-read : (flag : Bool) → high < 2 ^ flagged flag j → low < 2 ^ flagged flag k
-      → flagged flag (numberAt n (behind flag) (length p) / 2 ^ k % 2 ^ j) ≡ high
-  unfolding flagged pick
-  high-read true h l =
-      ap (λ (x : ℕ). x / 2 ^ k % 2 ^ j) (whole h l)
-      ∙ ap (λ (x : ℕ). x % 2 ^ j) (digits-div high l) ∙ mod-eq-of-lt h
-  high-read false h l = sym (lt-one h)
 
 -- ---- the packet
 module _ (v : Values) (k : Conforms v) where
@@ -90,18 +81,6 @@ module _ (v : Values) (k : Conforms v) where
   byte2 =
       parts (v .ptsExtensionFlag) (v .outputDataRateFlag) (v .reserved2) (length (optionalFields v)) (k .beforeLength)
       (k .header)
-
-  identified : dataIdentifier s ≡ v .dataIdentifier
-  unfolding packetOf
-  identified = refl
-
-  subStream : subStreamId s ≡ v .subStreamId
-  unfolding packetOf
-  subStream = refl
-
-  reserved : bits 5 4 (byteAt s 2) ≡ v .reserved2
-  unfolding packetOf
-  reserved = byte2 .between
 
   extended : ptsExtensionFlag s ≡ v .ptsExtensionFlag
   unfolding packetOf
@@ -145,14 +124,6 @@ module _ (v : Values) (k : Conforms v) where
       (append-assoc (extensionField v) (rateField v ++ v .privateBytes) (v .dataBytes)
       ∙ ap (λ (l : List ℕ). extensionField v ++ l) (append-assoc (rateField v) (v .privateBytes) (v .dataBytes)))
 
-  privately : slice (privatePlace s) (dataPlace s) s ≡ v .privateBytes
-  unfolding packetOf optionalFields
-  privately =
-      ap (drop (privatePlace s)) (take-at (front (optionalFields v)) (v .dataBytes) (dataPlace s) (sym place-data))
-      ∙ ap (λ (l : List ℕ). drop (privatePlace s) (front l))
-      (sym (append-assoc (extensionField v) (rateField v) (v .privateBytes)))
-      ∙ drop-at (front (extensionField v ++ rateField v)) (v .privateBytes) (privatePlace s) (sym place-private)
-
   carried : slice (dataPlace s) (length s) s ≡ v .dataBytes
   unfolding packetOf
   carried =
@@ -173,25 +144,11 @@ module _ (v : Values) (k : Conforms v) where
       (low-read 2 7 9 (v .reserved7) (v .ptsExtension) (front []) behindExtension refl
       (v .ptsExtensionFlag) (k .beforeExtension) (k .extension))
 
-  extension-high : flagged (ptsExtensionFlag s) (bits 15 9 (numberAt 2 s 3)) ≡ v .reserved7
-  unfolding extensionField
-  extension-high =
-      rw (extended, body)
-      (high-read 2 7 9 (v .reserved7) (v .ptsExtension) (front []) behindExtension refl
-      (v .ptsExtensionFlag) (k .beforeExtension) (k .extension))
-
   rate-low : outputDataRate s ≡ v .outputDataRate
   unfolding rateField
   rate-low =
       rw (rated, place-rate, body)
       (low-read 4 4 28 (v .reserved4) (v .outputDataRate) (front (extensionField v)) behindRate refl
-      (v .outputDataRateFlag) (k .beforeRate) (k .rate))
-
-  rate-high : flagged (outputDataRateFlag s) (bits 31 28 (numberAt 4 s (ratePlace s))) ≡ v .reserved4
-  unfolding rateField
-  rate-high =
-      rw (rated, place-rate, body)
-      (high-read 4 4 28 (v .reserved4) (v .outputDataRate) (front (extensionField v)) behindRate refl
       (v .outputDataRateFlag) (k .beforeRate) (k .rate))
 
   -- ---- no line applies
@@ -250,17 +207,18 @@ module _ (v : Values) (k : Conforms v) where
       let c = cons-bytes (v .subStreamId) (flagsByte v ∷ l) (k .subStream) (cons-bytes (flagsByte v) l (byte2 .fits) b) in
       cons-bytes (v .dataIdentifier) (v .subStreamId ∷ flagsByte v ∷ l) identifier-lt c
 
-  -- ---- every value is read back
-  values : takenValues s ≡ v
-  values =
-      rw (extension-low, extension-high, rate-low, rate-high, privately, carried)
-      (rw (extended, rated, identified, subStream, reserved) refl)
+  -- ---- what is read
+  reading : taken s ≡ readingOf v
+  reading = rw (extension-low, rate-low) (rw (extended, rated, header) refl)
 
 pub written-is-read : WrittenIsRead
 written-is-read v k =
-    let z = fault-none (packetOf v) (none v k) in
+    let e : readOf (packetOf v) ≡ taken (packetOf v) = read-taken (packetOf v) (fault-none (packetOf v) (none v k)) in
     record {
-      bytes = bytes v k;
-      answered = rw (read-taken (packetOf v) z) refl;
-      values = values-taken (packetOf v) z ∙ values v k;
+      reading = e ∙ reading v k;
+      given = ap (λ (r : Reading). part (r .start) (slice (r .start) (r .end) (packetOf v))) e
+          ∙ ap₂ (λ (n : ℕ) (l : List ℕ). part n l) (ap (λ (r : Reading). r .start) (reading v k)) (carried v k);
     }
+
+pub packet-is-bytes : PacketIsBytes
+packet-is-bytes v k = bytes v k

@@ -1,26 +1,25 @@
 -- Each outcome that the tables reach has what goes with its number: a refusal, what is passed by, and what is kept.
-use Prim.Native.Nat.{ℕ, _+_, _-_, _≤_}
+use Prim.Native.Nat.{ℕ, _+_, _-_}
 use native.Mathlib.Decide.{ℕ-discrete}
 use native.Mathlib.Omega.{arith}
-use mathlib.Core.Path.{_≡_, refl, sym, ap, _∙_}
+use mathlib.Core.Path.{_≡_, refl, ap, _∙_}
 use mathlib.Core.Logic.{_≢_}
-use mathlib.Core.List.{List, [], _∷_, _++_, append-assoc, flatten}
+use mathlib.Core.List.{List, [], _∷_, append-assoc, flatten}
 use mathlib.Core.Bool.{Bool, true, false, not}
-use lib.ListN.{length, take, drop}
+use lib.ListN.{length}
 use lib.Seq.{take-all, take-length}
-use lib.Dec.{eqb, leb, ltb}
-use borrow.Author.Tests.{eq-eqb, eqb-false, eqb-true, ltb-false, ne-eqb}
-use Rattle.wire.specs.Bytes.{bit, byteAt, over}
+use lib.Dec.{eqb, leb}
+use borrow.Author.Tests.{eq-eqb, eqb-false, eqb-true, ne-eqb}
+use Rattle.wire.specs.Bytes.{byteAt}
 use Rattle.wire.specs.Choice.{both, firstOf, Line, line, pick, without}
-use Rattle.wire.proofs.Choice.{firstOf-without, none-first}
+use Rattle.wire.proofs.Choice.{firstOf-without}
+use Rattle.rules.specs.declared.Answer.{Answer}
 use Rattle.rules.specs.declared.Answer.the-variants.{Delivered, PassedBy, Refused, Stored}
-use Rattle.rules.specs.declared.Key.{Key}
 use Rattle.rules.specs.declared.Settings.{Settings}
-use Rattle.rules.specs.declared.Sending.the-variants.{Sent, Unsent}
 use Rattle.rules.specs.declared.State.{State}
 use Rattle.rules.specs.declared.State.the-variants.{Idle, Open}
-use Rattle.rules.specs.After.{ReceiverAfter, ReceiverGives, runBehind, SenderAfter, SenderGives, stored, storedAt, Written}
-use Rattle.rules.specs.Check.{check, checkLines, faultLines, formLines, orderLines}
+use Rattle.rules.specs.After.{NamedByNumber, ReceiverAfter, ReceiverGives, ReceiverNames, runBehind, SenderAfter, SenderGives, stored, storedAt}
+use Rattle.rules.specs.Check.{checkLines, faultLines, formLines, orderLines}
 use Rattle.rules.specs.Meaning.{filledBefore}
 use Rattle.rules.specs.Section.{lastSectionNumber, llcSnapFlag, payload, sectionNumber}
 use Rattle.rules.specs.Send.{sendingLength, sendingNumber, sendLines, SendOutcome, sections, sentOf, written}
@@ -28,17 +27,77 @@ use Rattle.rules.specs.Step.{barLines, continues, finish, From, goodSett
 use Rattle.rules.proofs.Meaning.{filled-open, filled-zero}
 use Rattle.rules.proofs.Sections.{sections-sent}
 use Rattle.rules.proofs.Send.{accepted, sent-is, unsent-is}
-use Rattle.rules.proofs.Sound.{payload-length}
 
--- ---- the receiver
-abbrev After : State → List ℕ → List ℕ → Outcome → Type 0
-After σ s b o = ReceiverAfter σ s b (numberOf (o .step .answer)) (lengthOf (o .step .answer)) (o .step .state) (o .buffer)
-
+-- ---- the outcomes of a step
 -- a number that is none of 2, 1 and 0
 pub record Refusing (n : ℕ) : Type 0 where
   pub two : n ≢ 2
   pub one : n ≢ 1
   pub zero : n ≢ 0
+
+-- what holds of every refusal, of what is passed by and of what is kept holds of the step
+module _ (σ : State) (s b : List ℕ) (P : Outcome → Type 0) (refused : (n : ℕ) → Refusing n → P (refuse n b))
+    (passed : P (outcome PassedBy σ b)) (kept : (f : ℕ) → filledBefore σ (byteAt s 6) ≡ f → P (keep f s b)) where
+  -- the lines of a part have none of these numbers
+  by-lines : (lines : List Line) (o : Outcome) → without 0 lines ≡ true → without 1 lines ≡ true → without 2 lines ≡ true
+      → P o → P (refuseFirst lines b o)
+  unfolding refuseFirst pick
+  by-lines lines o h0 h1 h2 a = go (ℕ-discrete (firstOf lines) 0)
+    where
+      go : Dec (firstOf lines ≡ 0) → P (pick (eqb (firstOf lines) 0) o (refuse (firstOf lines) b))
+      go (yes e) = rw (eq-eqb (firstOf lines) 0 e) a
+      go (no e) =
+          rw (ne-eqb (firstOf lines) 0 e)
+          (refused (firstOf lines)
+          (record {
+            two = firstOf-without 2 lines h2 (λ z. absurd (omega arith));
+            one = firstOf-without 1 lines h1 (λ z. absurd (omega arith));
+            zero = e;
+          }))
+
+  nowhere : P (lay Nowhere s b)
+  unfolding lay
+  nowhere = refused 22 (record { two = λ z. omega arith; one = λ z. omega arith; zero = λ z. omega arith })
+
+  by-room : (f : ℕ) → filledBefore σ (byteAt s 6) ≡ f → P (lay (From f) s b)
+  unfolding lay pick
+  by-room f e = go (leb (f + length (payload s)) (room b))
+    where
+      go : (t : Bool) → P (pick t (keep f s b) (refuse 23 b))
+      go true = kept f e
+      go false = refused 23 (record { two = λ z. omega arith; one = λ z. omega arith; zero = λ z. omega arith })
+
+  by-run : (τ : State) → σ ≡ τ → byteAt s 6 ≢ 0 → P (lay (onward τ s) s b)
+  unfolding onward pick
+  by-run Idle is h = nowhere
+  by-run (Open n f κ) is h = go (continues n κ s)
+    where
+      go : (t : Bool) → P (lay (pick t (From f) Nowhere) s b)
+      go true = by-room f (ap (λ (τ : State). filledBefore τ (byteAt s 6)) is ∙ filled-open n f κ (byteAt s 6) h)
+      go false = nowhere
+
+  by-place : P (lay (place σ s) s b)
+  unfolding place sectionNumber pick
+  by-place = go (eqb (byteAt s 6) 0) refl
+    where
+      go : (t : Bool) → eqb (byteAt s 6) 0 ≡ t → P (lay (pick t (From 0) (onward σ s)) s b)
+      go true e = by-room 0 (filled-zero σ (byteAt s 6) (eqb-true _ _ e))
+      go false e = by-run σ refl (eqb-false _ _ e)
+
+  by-address : (t : Bool) (o : Outcome) → P o → P (pick t o (outcome PassedBy σ b))
+  unfolding pick
+  by-address true o a = a
+  by-address false o a = passed
+
+  by-step : (c : Settings) → P (stepOf c σ s b)
+  unfolding stepOf without both checkLines faultLines formLines orderLines barLines
+  by-step c =
+      by-lines (line 10 (not (goodSettings c)) ∷ line 11 (not (goodState σ)) ∷ []) _ refl refl refl
+      (by-lines (checkLines s) _ refl refl refl (by-address (ours c s) _ (by-lines (barLines c s) _ refl refl refl by-place)))
+
+-- ---- what goes with each
+abbrev After : State → List ℕ → List ℕ → Outcome → Type 0
+After σ s b o = ReceiverAfter σ s b (numberOf (o .step .answer)) (lengthOf (o .step .answer)) (o .step .state) (o .buffer)
 
 refused-after : (σ : State) (s b : List ℕ) (n : ℕ) → Refusing n → After σ s b (refuse n b)
 unfolding numberOf lengthOf
@@ -59,23 +118,6 @@ passed-after σ s b =
       kept = λ e. absurd (omega arith);
       delivered = λ e. absurd (omega arith);
     }
-
--- the lines of a part have no number of 0, 1 and 2
-lines-after : (σ : State) (s b : List ℕ) (lines : List Line) (o : Outcome)
-    → without 0 lines ≡ true → without 1 lines ≡ true → without 2 lines ≡ true → After σ s b o → After σ s b (refuseFirst lines b o)
-unfolding refuseFirst pick
-lines-after σ s b lines o h0 h1 h2 a = go (ℕ-discrete (firstOf lines) 0)
-  where
-    go : Dec (firstOf lines ≡ 0) → After σ s b (pick (eqb (firstOf lines) 0) o (refuse (firstOf lines) b))
-    go (yes e) = rw (eq-eqb (firstOf lines) 0 e) a
-    go (no e) =
-        rw (ne-eqb (firstOf lines) 0 e)
-        (refused-after σ s b (firstOf lines)
-        (record {
-          two = firstOf-without 2 lines h2 (λ z. absurd (omega arith));
-          one = firstOf-without 1 lines h1 (λ z. absurd (omega arith));
-          zero = e;
-        }))
 
 stored-is : (s : List ℕ) → payload s ≡ stored s
 unfolding payload
@@ -107,46 +149,47 @@ kept-after σ s b f e = rw (laid-is f s b, stored-is s, ← e) (go (eqb (byteAt 
           delivered = λ e. absurd (omega arith);
         }
 
-laid-after : (σ : State) (s b : List ℕ) (f : ℕ) → filledBefore σ (byteAt s 6) ≡ f → After σ s b (lay (From f) s b)
-unfolding lay pick
-laid-after σ s b f e = go (leb (f + length (payload s)) (room b))
-  where
-    go : (t : Bool) → After σ s b (pick t (keep f s b) (refuse 23 b))
-    go true = kept-after σ s b f e
-    go false = refused-after σ s b 23 (record { two = λ z. omega arith; one = λ z. omega arith; zero = λ z. omega arith })
-
-nowhere-after : (σ : State) (s b : List ℕ) → After σ s b (lay Nowhere s b)
-unfolding lay
-nowhere-after σ s b = refused-after σ s b 22 (record { two = λ z. omega arith; one = λ z. omega arith; zero = λ z. omega arith })
-
-onward-after : (σ : State) (s b : List ℕ) → byteAt s 6 ≢ 0 → After σ s b (lay (onward σ s) s b)
-unfolding onward pick
-onward-after Idle s b h = nowhere-after Idle s b
-onward-after (Open n f κ) s b h = go (continues n κ s)
-  where
-    go : (t : Bool) → After (Open n f κ) s b (lay (pick t (From f) Nowhere) s b)
-    go true = laid-after (Open n f κ) s b f (filled-open n f κ (byteAt s 6) h)
-    go false = nowhere-after (Open n f κ) s b
-
-placed-after : (σ : State) (s b : List ℕ) → After σ s b (lay (place σ s) s b)
-unfolding place sectionNumber pick
-placed-after σ s b = go (eqb (byteAt s 6) 0) refl
-  where
-    go : (t : Bool) → eqb (byteAt s 6) 0 ≡ t → After σ s b (lay (pick t (From 0) (onward σ s)) s b)
-    go true e = laid-after σ s b 0 (filled-zero σ (byteAt s 6) (eqb-true _ _ e))
-    go false e = onward-after σ s b (eqb-false _ _ e)
-
-own-after : (σ : State) (s b : List ℕ) (t : Bool) (o : Outcome) → After σ s b o → After σ s b (pick t o (outcome PassedBy σ b))
-unfolding pick
-own-after σ s b true o a = a
-own-after σ s b false o a = passed-after σ s b
-
 pub receiver-gives : ReceiverGives
-unfolding stepOf without both checkLines faultLines formLines orderLines barLines
-receiver-gives c σ s b =
-    lines-after σ s b (line 10 (not (goodSettings c)) ∷ line 11 (not (goodState σ)) ∷ []) _ refl refl refl
-    (lines-after σ s b (checkLines s) _ refl refl refl
-    (own-after σ s b (ours c s) _ (lines-after σ s b (barLines c s) _ refl refl refl (placed-after σ s b))))
+receiver-gives c σ s b = by-step σ s b (After σ s b) (refused-after σ s b) (passed-after σ s b) (kept-after σ s b) c
+
+-- ---- the names
+abbrev Named : Outcome → Type 0
+Named o = NamedByNumber (o .step .answer)
+
+refused-named : (b : List ℕ) (n : ℕ) → Refusing n → Named (refuse n b)
+unfolding numberOf
+refused-named b n h =
+    record {
+      refused = λ _ _ _. refl;
+      passed = λ e. absurd (h .two e);
+      kept = λ e. absurd (h .one e);
+      delivered = λ e. absurd (h .zero e);
+    }
+
+-- any answer but a refusal has its name by its number
+own-named : (a : Answer) → ((n : ℕ) → a ≡ Refused n → ⊥) → NamedByNumber a
+unfolding numberOf lengthOf
+own-named (Delivered n) h =
+    record { refused = λ _ _ e. absurd (e refl); passed = λ e. absurd (omega arith); kept = λ e. absurd (omega arith); delivered = λ _. refl }
+own-named Stored h =
+    record { refused = λ _ e _. absurd (e refl); passed = λ e. absurd (omega arith); kept = λ _. refl; delivered = λ e. absurd (omega arith) }
+own-named PassedBy h =
+    record { refused = λ e _ _. absurd (e refl); passed = λ _. refl; kept = λ e. absurd (omega arith); delivered = λ e. absurd (omega arith) }
+own-named (Refused n) h = absurd (h n refl)
+
+no-refusal : (f : ℕ) (s b : List ℕ) (n : ℕ) → keep f s b .step .answer ≡ Refused n → ⊥
+unfolding keep finish pick
+no-refusal f s b n = go (eqb (sectionNumber s) (lastSectionNumber s))
+  where
+    go : (t : Bool) → pick t (finish (f + length (payload s)) (laid f s b))
+        (outcome Stored (Open (sectionNumber s + 1) (f + length (payload s)) (keyOf s)) (laid f s b)) .step .answer ≡ Refused n → ⊥
+    go true p = let z : _≡_ {A = ℕ} 0 1 = cc in omega arith
+    go false p = let z : _≡_ {A = ℕ} 0 1 = cc in omega arith
+
+pub receiver-names : ReceiverNames
+receiver-names c σ s b =
+    by-step σ s b Named (refused-named b) (own-named PassedBy (λ n p. let z : _≡_ {A = ℕ} 0 1 = cc in omega arith))
+    (λ f e. own-named (keep f s b .step .answer) (no-refusal f s b)) c
 
 -- ---- the sender
 pub sender-gives : SenderGives

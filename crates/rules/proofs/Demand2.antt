@@ -238,5 +238,5 @@ round-trip c flag n u out m p =
     record {
       sections = sections-sent c flag n u (a .some) _ bytes;
       offered = cut ∙ sym (sections-are c flag n u (a .some) _ bytes);
-      arrives = λ b h. rw cut (arrives c flag n u out a b (room-enough b (length u) (a .unit) h));
+      arrives = λ b h. rw (sections-are c flag n u (a .some) _ bytes) (arrives c flag n u out a b (room-enough b (length u) (a .unit) h));
     }

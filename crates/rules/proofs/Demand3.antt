@@ -18,7 +18,7 @@ use Rattle.rules.specs.Section.{address, lastSectionNumber, llcSnapFlag}
 use Rattle.rules.specs.Sound.{Limits, table3, Values}
 use Rattle.rules.specs.Step.{goodSettings, keyOf, ours, refuseFirst, room, stepOf}
 use Rattle.rules.specs.Row.{after, datagram, Event, fresh, gap, handedBy, handedOver, Held, nothing, section}
-use Rattle.rules.specs.Demand3.{CanBeStruck, Demand3Holds, Elsewhere, Ends, HandedRight, joined, OfBytes, Once, OnlyOne, Own, Piece, Ready, Receivable, Struck, WholeRun}
+use Rattle.rules.specs.Demand3.{Demand3Holds, Elsewhere, Ends, HandedRight, joined, OfBytes, Once, OnlyOne, Own, Piece, Ready, Receivable, Struck, WholeRun}
 use Rattle.rules.specs.Meaning.{Good}
 use Rattle.rules.proofs.Compared.{compares-last}
 use Rattle.rules.proofs.Due.{no-datagram}

@@ -9,6 +9,7 @@ pub mod Due
 pub mod Exactly
 pub mod Finish
 pub mod Good
+pub mod Handed
 pub mod Keys
 pub mod Lists
 pub mod Meaning

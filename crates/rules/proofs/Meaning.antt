@@ -2,14 +2,14 @@
 use Prim.Native.Nat.{ℕ, zero, suc, _+_, _*_, _-_, _≤_, _<_, min}
 use native.Mathlib.Omega.{arith}
 use mathlib.Core.Path.{_≡_, refl, sym, ap, subst, _∙_}
-use mathlib.Core.Logic.{_≢_, _⊎_}
+use mathlib.Core.Logic.{_≢_}
 use mathlib.Core.List.{List, [], _∷_, _++_, flatten}
 use mathlib.Core.Bool.{Bool, true, false, not, Bool·beq}
 use lib.ListN.{length, take}
 use lib.Dec.{eqb, leb, ltb}
 use borrow.Author.Tests.{eqb-false, eqb-true, leb-false, leb-true, lt-leb, ltb-false, not-false, not-true}
 use Rattle.wire.specs.Bytes.{bit, bits, byteAt, numberAt}
-use Rattle.wire.specs.Choice.{pick, both, either, Line, line, first, firstOf, without}
+use Rattle.wire.specs.Choice.{pick, both, Line, line, first, firstOf, without}
 use Rattle.wire.specs.Meaning.{Row, _means_}
 use Rattle.wire.proofs.Choice.{both-true, never, not-first}
 use Rattle.wire.proofs.Meaning.{Gives, gives-last, gives-row, or-else, or-zero, orElse, Tells, tells-both, tells-either, tells-eq, tells-le, tells-lt, tells-not, tells-outside}

@@ -8,9 +8,9 @@ use mathlib.Core.Bool.{Bool}
 use mathlib.Core.List.{List, [], _∷_, _++_, flatten, append-assoc, append-nil}
 use lib.ListN.{length, getD, take, drop, length-append, length-take, length-drop, drop-of-length-le}
 use lib.Seq.{drop-drop, getD-at, getD-take, take-add, take-all, take-append-le, take-at}
-use borrow.Author.Tests.{eq-eqb, ne-eqb, le-leb, leb-true, le-ltb, ltb-false, not-false}
+use borrow.Author.Tests.{eq-eqb, ne-eqb, leb-true, ltb-false, not-false}
 use Rattle.wire.specs.Bytes.{over}
-use Rattle.wire.specs.Choice.{pick, both, first, firstOf}
+use Rattle.wire.specs.Choice.{pick, firstOf}
 use Rattle.rules.specs.declared.Address.{Address}
 use Rattle.rules.specs.declared.Settings.{Settings}
 use Rattle.rules.specs.declared.Sending.the-variants.{Sent, Unsent}

@@ -8,6 +8,8 @@ use mathlib.Core.Bool.{Bool}
 use lib.ListN.{length, take, drop}
 use lib.Dec.{eqb}
 use Rattle.wire.specs.Bytes.{bit, byteAt}
+use Rattle.rules.specs.declared.Answer.{Answer}
+use Rattle.rules.specs.declared.Answer.the-variants.{Delivered, PassedBy, Refused, Stored}
 use Rattle.rules.specs.declared.Settings.{Settings}
 use Rattle.rules.specs.declared.State.{State}
 use Rattle.rules.specs.declared.State.the-variants.{Idle, Open}
@@ -42,6 +44,16 @@ abbrev pub ReceiverGives : Type 0
 ReceiverGives =
     (c : Settings) (σ : State) (s b : List ℕ) → let o : Outcome = stepOf c σ s b in
     ReceiverAfter σ s b (numberOf (o .step .answer)) (lengthOf (o .step .answer)) (o .step .state) (o .buffer)
+
+-- within Rattle an answer has a name beside its number, and a number goes with one name only
+pub record NamedByNumber (a : Answer) : Type 0 where
+  pub refused : numberOf a ≢ 2 → numberOf a ≢ 1 → numberOf a ≢ 0 → a ≡ Refused (numberOf a)
+  pub passed : numberOf a ≡ 2 → a ≡ PassedBy
+  pub kept : numberOf a ≡ 1 → a ≡ Stored
+  pub delivered : numberOf a ≡ 0 → a ≡ Delivered (lengthOf a)
+
+abbrev pub ReceiverNames : Type 0
+ReceiverNames = (c : Settings) (σ : State) (s b : List ℕ) → NamedByNumber (stepOf c σ s b .step .answer)
 
 -- ---- the sender
 -- sections stand from the start of the output, as many bytes as the length says, and behind them it is as it was

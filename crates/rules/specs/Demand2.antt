@@ -52,11 +52,11 @@ pub record Arrives (c : Settings) (b : List ℕ) (xs : List (List ℕ)) (u : Lis
   pub delivered : (i : ℕ) → i + 1 ≡ length xs → answerAt c b xs i ≡ Delivered (length u)
   pub unit : take (length u) (after c (fresh b) (map section xs) .buffer) ≡ u
 
--- these bytes are the sections of the unit; cut as the listing cuts, they are these one by one, and carry the unit to any buffer with room
+-- these bytes are the sections of the unit; cut as the listing cuts, they are these one by one; and they carry the unit to any buffer with room
 pub record Demand2 (c : Settings) (flag : Bool) (size : ℕ) (u bytes : List ℕ) : Type 0 where
   pub sections : Sections c flag size u bytes
   pub offered : offers bytes ≡ map table3 (sections .values)
-  pub arrives : (b : List ℕ) → length u ≤ length b → Arrives c b (offers bytes) u
+  pub arrives : (b : List ℕ) → length u ≤ length b → Arrives c b (map table3 (sections .values)) u
 
 -- the bytes that the sender gives do, wherever it accepts: good settings, either flag, any unit, any piece size from 1 to 4,080
 abbrev pub RoundTrip : Type 0

@@ -199,6 +199,42 @@ fn idle_with_any_numbers() {
     }
 }
 
+/// Answer 2 leaves the state as given, in the numbers that a state has: others are rewritten.
+#[test]
+fn passed_by_rewrites_numbers_that_no_state_has() {
+    let ours = fossknut::Settings {
+        address: second::generator::OURS,
+        range: 6,
+        limit: 16,
+    };
+    let others = sound([0; 6], 0, 0, b"knut");
+    let passed_by = |run, flag| {
+        let mut state = ffi::State {
+            run,
+            next: 2,
+            last: 3,
+            filled: 5,
+            flag,
+        };
+        let mut buffer = *b"Fosskn";
+        let answer = ffi::receive(&ours, &mut state, &others, &mut buffer);
+        assert_eq!((answer, buffer), ((2, 0), *b"Fosskn"));
+        state
+    };
+    let open = |flag| ffi::State {
+        run: 1,
+        next: 2,
+        last: 3,
+        filled: 5,
+        flag,
+    };
+    assert_eq!(passed_by(1, 1), open(1));
+    assert_eq!(passed_by(7, 0), open(0));
+    assert_eq!(passed_by(7, 2), open(1));
+    assert_eq!(passed_by(255, 255), open(1));
+    assert_eq!(passed_by(0, 1), ffi::State::default());
+}
+
 #[test]
 fn gap_notices_in_any_state() {
     let mut random = Random::new(5);

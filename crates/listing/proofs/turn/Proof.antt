@@ -1,9 +1,9 @@
 -- Each way through is one of the laws of what is owed.
 use native.Mathlib.Omega.{arith}
-use denote.Ref.{now}
 use borrow.Author.Tests.{not-true, not-false}
 use Rattle.wire.proofs.Choice.{was}
-use Rattle.listing.proofs.Owed.{turned-kept, kept-stays, turned-flush, turned-serve, ended, unended, fine-stays, roomy}
+use Rattle.listing.specs.Walk.{Offered}
+use Rattle.listing.proofs.Owed.{turned-kept, turned-finish, turned-flush, turned-serve, ended, unended, fine-stays, roomy}
 use borrow.Author.Needs.{needs}
 use Rattle.listing.proofs.turn.Statement.{statement}
 use Rattle.listing.proofs.turn.Tie as tie
@@ -22,10 +22,9 @@ returns c =
     let at-full = c .before .before in
     let start = at-full .before .before .before .before .before in
     let is-full = was (at-full .before .full .ensures) (at-full .if1 .taken) in
-    let same = c .flush .ensures .0 in
-    let none = c .flush .ensures .1 in (
-      fine-stays (start .args .walk) same (start .pre .0),
-      (omega (arith, none), λ rest l. turned-flush (start .args .settings) (start .args .walk) is-full same none l),
+    let gave = c .flush .ensures in (
+      fine-stays (start .args .walk) (gave .stays) (start .pre .0),
+      (omega (arith, gave .out), turned-flush (start .args .settings) (start .args .walk) (start .pre .1 .1) is-full gave),
     )
 
 ready-requires : tie.Need-ready-requires
@@ -47,7 +46,7 @@ returns-2 c =
     let not-full = was (roomy .before .full .ensures) (roomy .if1 .left) in
     let kept = at-refill .refill .ensures .1 in (
       at-refill .refill .ensures .0,
-      (omega (arith, kept .out, start .pre .1), λ rest l. turned-kept (start .args .settings) (start .args .walk) not-full kept l),
+      (omega (arith, kept .out, start .pre .1 .0), turned-kept (start .args .settings) (start .args .walk) (start .pre .1 .1) not-full kept),
     )
 
 finish-requires : tie.Need-finish-requires
@@ -57,14 +56,17 @@ finish-requires c κs =
 
 returns-3 : tie.Need-returns-3
 returns-3 c =
-    let roomy = c .before .before .before .before .before in
+    let apart = c .before in
+    let at-ready = apart .before .before in
+    let roomy = at-ready .before .before in
     let start = roomy .before .before .before .before .before in
     let not-full = was (roomy .before .full .ensures) (roomy .if1 .left) in
+    let is-ready = was (at-ready .before .ready .ensures) (not-false _ (at-ready .if2 .left)) in
     let same = c .finish .ensures .0 in
-    let out = c .finish .ensures .1 .0 .0 in
-    let kept = kept-stays (start .args .walk) (now (start .args .input)) same out in (
+    let kept = c .finish .ensures .1 .0 in
+    let all : Offered (start .args .walk) = (ended _ is-ready (apart .if3 .taken), apart .if3 .taken) in (
       fine-stays (start .args .walk) same (start .pre .0),
-      (omega (arith, out, start .pre .1), λ rest l. turned-kept (start .args .settings) (start .args .walk) not-full kept l),
+      (omega (arith, kept .0, start .pre .1 .0), turned-finish (start .args .settings) (start .args .walk) not-full same (kept .0) (kept .2) all),
     )
 
 serve-requires : tie.Need-serve-requires
@@ -74,7 +76,7 @@ serve-requires c κs =
     let start = at-room .before .before .before .before .before in
     let is-ready = was (at-ready .before .ready .ensures) (not-false _ (at-ready .if2 .left)) in
     let not-full = was (at-room .before .full .ensures) (at-room .if1 .left) in
-    (start .pre .0, (is-ready, roomy _ _ not-full (start .pre .1)))
+    (start .pre .0, (is-ready, roomy _ _ not-full (start .pre .1 .0)))
 
 same-length-3 : tie.Need-same-length-3
 same-length-3 c = search needs
@@ -96,7 +98,7 @@ returns-4 c =
     let not-full = was (at-room .before .full .ensures) (at-room .if1 .left) in
     let s = at-serve .serve .ensures in
     let a = start .args in
-    (s .1 .0, (s .1 .1, λ rest l. turned-serve (a .settings) (a .walk) (start .pre .0) (s .0) l is-ready (apart .if3 .left) not-full))
+    (s .1 .0, (s .1 .1, turned-serve (a .settings) (a .walk) (start .pre .0) (s .0) is-ready (apart .if3 .left) not-full))
 
 pub turn-spec : {M : Type 1} → statement M
 turn-spec =

@@ -1,0 +1,100 @@
+-- Each contract is an equation with the rules' outcome, and the rules' theorems say of that outcome what is asked.
+use Prim.Native.Nat.{ℕ, _-_}
+use mathlib.Core.Path.{_≡_, refl, sym, ap, ap₂, subst, _∙_}
+use mathlib.Core.Logic.{_↔_}
+use mathlib.Core.List.{List}
+use mathlib.Core.Bool.{Bool, true, false, cond}
+use denote.Ref.{now}
+use lib.ListN.{length, length-drop, take}
+use lib.Seq.{length-take-le}
+use Rattle.wire.specs.Choice.{pick}
+use Rattle.wire.specs.Part.{Is, Part}
+use Rattle.rules.specs.declared.Address.{Address}
+use Rattle.notification_rules.specs.Format.{Answer, answerTo, foundNobody, Gives, refusedWith}
+use Rattle.notification_rules.specs.Notice.{noticeNumber, noticeOf}
+use Rattle.notification_rules.proofs.Answered.{written-is-found}
+use Rattle.notification_rules.proofs.Exactly.{others-give-nothing, taken-exactly}
+use Rattle.notification_rules.proofs.Meaning.{notification-means}
+use Rattle.pes_rules.specs.declared.Reading.{Reading}
+use Rattle.pes_rules.specs.Packet.{dataOf, readOf}
+use Rattle.pes_rules.specs.Written.{dataPartOf, Gives as GivesPacket, readingOf}
+use Rattle.pes_rules.proofs.Answer.{data-within}
+use Rattle.pes_rules.proofs.Exactly.{others-give-nothing as packet-others, taken-exactly as packet-taken}
+use Rattle.pes_rules.proofs.Meaning.{packet-means}
+use Rattle.pes_rules.proofs.Written.{written-is-read}
+use Rattle.numbers.specs.Numbers.{flagNumber}
+use Rattle.exports.specs.Given.{Told}
+use Rattle.demands.specs.Abroad.{deviceGiven, sectionGiven}
+use Rattle.demands.specs.Readers.{Notices, packetNumbers, Packets, Readers}
+
+-- what is equal to the rules' number has its meaning
+by : {m z n : ℕ} {p : Type 0} → z ≡ m → (m ≡ n) ↔ p → (z ≡ n) ↔ p
+by e h = (λ q. h .0 (sym e ∙ q), λ x. e ∙ h .1 x)
+
+-- ---- what holds of the outcome holds of a number that is the outcome's, and of all that is told with it
+notices : (device : Address) (s : List ℕ) (number : ℕ) (Told : Answer → Type 0) → number ≡ noticeNumber (noticeOf device s)
+    → ((x : Answer) → Gives device s x → Told x) → Notices device s number Told
+notices device s number Told e told =
+    let others = others-give-nothing device s in
+    record {
+      means = λ b k. by e (notification-means device s b k);
+      written = λ n c w. told (answerTo device n) (rw w at (written-is-found device n c));
+      taken = λ b h. taken-exactly device s b .0 (rw e at h);
+      nobody = λ h. told foundNobody (others .nobody (sym e ∙ h));
+      refused = λ j k. told (refusedWith number) (rw e (others .refused (rw e at j) (rw e at k)));
+    }
+
+packets : (s : List ℕ) (number : ℕ) (Told : Reading → Part → Type 0) → number ≡ readOf s .answer
+    → ((r : Reading) (p : Part) → GivesPacket s r p → Told r p) → Packets s number Told
+packets s number Told e told =
+    record {
+      means = λ k. by e (packet-means s k);
+      written = λ v c w. told (readingOf v) (dataPartOf v) (subst (λ (x : List ℕ). GivesPacket x (readingOf v) (dataPartOf v)) w (written-is-read v c));
+      taken = λ b h. packet-taken s b .0 (sym e ∙ h);
+      refused = λ h. told _ _ (rw e (packet-others s (rw e at h)));
+    }
+
+-- ---- a part that is equal to the part handed out
+same-part : (start : ℕ × ℕ) (p q : Part) (z : _) → p ≡ q → Is start p z → Is start q z
+same-part start p q z e h = rw e at h
+
+-- ---- the numbers of a reading
+flag-number : (b : Bool) → flagNumber b ≡ cond b 1 0
+unfolding flagNumber pick
+flag-number true = refl
+flag-number false = refl
+
+data-count : (s : List ℕ) → length (dataOf s) ≡ readOf s .end - readOf s .start
+data-count s =
+    let w = data-within s (readOf s) refl in
+    length-drop (readOf s .start) (take (readOf s .end) s) ∙ ap (λ (n : ℕ). n - readOf s .start) (length-take-le (readOf s .end) s (w .inside))
+
+-- what a foreign caller is given of an outcome is what a reading and its data have
+given : {s : List ℕ} {r : Reading} {p : Part} {z extended rated extension rate start count : ℕ}
+    → Told (readOf s) z extended rated extension rate start count → GivesPacket s r p
+    → record {
+      answer = z;
+      extended = extended;
+      rated = rated;
+      extension = extension;
+      rate = rate;
+      start = start;
+      count = count;
+    }
+    ≡ packetNumbers r p
+given {s = s} t g =
+    rw (t .answer, t .extended, t .rated, t .extension, t .rate, t .start, t .length)
+    (rw (flag-number (readOf s .extended), flag-number (readOf s .rated), ← data-count s) (ap₂ packetNumbers (g .reading) (g .given)))
+
+pub readers : Readers
+readers =
+    record {
+      notice = λ κs a z e p. notices (a .0) (now (a .1 .0)) (noticeNumber z) _ (ap noticeNumber p) (λ x g. p ∙ g .notice);
+      notification-read = λ κs a z e p.
+          notices (a .0) (now (a .1 .0)) _ _ (p .number) (λ x g. (p .number ∙ g .number, same-part _ _ _ z (g .given) (p .part)));
+      fossknut-notification = λ κs a z e p.
+          notices (deviceGiven κs a) (sectionGiven κs a) z _ (p .number) (λ x g. (p .number ∙ g .number, p .place ∙ g .place));
+      pes-read = λ κs a z e p. packets (now (a .0)) (z .answer) _ (ap (λ (r : Reading). r .answer) p) (λ r q g. p ∙ g .reading);
+      pes-data = λ κs a z e p. (readOf (now (a .0)) .answer, packets (now (a .0)) _ _ refl (λ r q g. same-part _ _ _ z (g .given) p));
+      fossknut-pes = λ κs a z e p. packets (now (a .0)) z _ (p .answer) (λ r q g. given p g);
+    }

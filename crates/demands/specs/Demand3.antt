@@ -1,0 +1,53 @@
+-- Demand 3 of the code: any row of sections and gap notices is given to it from a fresh start, each state handed on and the buffer written by
+-- nobody else; what is handed over at each event is as demand 3 says. Its words are defined in rules/specs/Demand3.antt.
+use Prim.Native.Nat.{ℕ}
+use mathlib.Core.Path.{_≡_}
+use mathlib.Core.List.{List, [], _∷_, _++_}
+use lib.ListN.{take}
+use lib.Dec.{eqb}
+use contract.Lifetimes.{Lfts}
+use denote.Ref.{now}
+use Rattle.wire.specs.Choice.{pick}
+use Rattle.rules.specs.declared.Settings.{Settings}
+use Rattle.rules.specs.Demand3.{CanBeStruck, HandedRight, OfBytes, Once, OnlyOne}
+use Rattle.rules.specs.Row.{datagram, Event, fresh, gap, Handed, handedBy, Held, nothing, section}
+use Rattle.numbers.specs.Numbers.{stateOf}
+use Rattle.demands.specs.Abroad.{gappedState, gapState, receiveBuffer, receivedBuffer, receivedLength, receivedState, receiveSection, receiveSettings, receiveState}
+use Rattle.demands.specs.Allowed.{Args, Exit, Result}
+use Rattle.demands.specs.Contracts as contracts
+
+-- what a foreign caller is handed over, told by the paper's number and the unit length
+unfoldable pub handedAbroad : ℕ → ℕ → List ℕ → Handed
+handedAbroad number n b = pick (eqb number 0) (datagram n (take n b)) nothing
+
+-- one event given to the code that holds h: what it holds afterwards, and what it hands over
+pub data Given (c : Settings) (h : Held) : Event → Held → Handed → Type 0 where
+  a-section : (κs : Lfts 2) (a : Args contracts.receive κs) (z : Result contracts.receive κs) (e : Exit contracts.receive κs)
+      → a .0 ≡ c → a .1 .0 ≡ h .state → now (a .1 .1 .1 .0) ≡ h .buffer → contracts.receive .Learnt κs a z e
+      → Given c h (section (now (a .1 .1 .0))) (record { state = z .state; buffer = now (e .1 .1 .1 .0) }) (handedBy (z .answer) (now (e .1 .1 .1 .0)))
+  a-gap : (κs : Lfts 0) (a : Args contracts.gap κs) (z : Result contracts.gap κs) (e : Exit contracts.gap κs)
+      → a .0 ≡ h .state → contracts.gap .Learnt κs a z e → Given c h gap (record { state = z; buffer = h .buffer }) nothing
+  -- by a foreign caller, who has the state as numbers
+  a-section-abroad : (κs : Lfts 8) (a : Args contracts.fossknut-receive κs) (z : Result contracts.fossknut-receive κs)
+      (e : Exit contracts.fossknut-receive κs)
+      → receiveSettings κs a ≡ c → stateOf (receiveState κs a) ≡ h .state → receiveBuffer κs a ≡ h .buffer
+      → contracts.fossknut-receive .Learnt κs a z e
+      → Given c h (section (receiveSection κs a)) (record { state = stateOf (receivedState κs e); buffer = receivedBuffer κs e })
+      (handedAbroad z (receivedLength κs e) (receivedBuffer κs e))
+  a-gap-abroad : (κs : Lfts 5) (a : Args contracts.fossknut-gap κs) (z : Result contracts.fossknut-gap κs) (e : Exit contracts.fossknut-gap κs)
+      → stateOf (gapState κs a) ≡ h .state → contracts.fossknut-gap .Learnt κs a z e
+      → Given c h gap (record { state = stateOf (gappedState κs e); buffer = h .buffer }) nothing
+
+-- a row of events given to the code: what it holds before and after it, and what is handed over at each event
+pub data GivenRow (c : Settings) : Held → List Event → List Handed → Held → Type 0 where
+  ended : (h : Held) → GivenRow c h [] [] h
+  more : (h : Held) (e : Event) (k : Held) (d : Handed) (r : List Event) (ds : List Handed) (l : Held)
+      → Given c h e k d → GivenRow c k r ds l → GivenRow c h (e ∷ r) (d ∷ ds) l
+
+pub record Demand3 : Type 0 where
+  -- behind any row given to the code from a fresh start
+  pub each : (c : Settings) (b : List ℕ) (r : List Event) (ds : List Handed) (h : Held) → GivenRow c (fresh b) r ds h
+      → (e : Event) (k : Held) (d : Handed) → Given c h e k d → OfBytes (r ++ (e ∷ [])) → HandedRight c b r e d
+  pub strikes : (c : Settings) → CanBeStruck c
+  pub only : (c : Settings) (b : List ℕ) → OnlyOne c b
+  pub once : (c : Settings) (b : List ℕ) → Once c b

@@ -1,0 +1,81 @@
+-- No refusal has the number 3 or 4, so these are answered exactly where no line applies, which is where table 13 writes the section.
+use Prim.Native.Nat.{ℕ}
+use native.Mathlib.Decide.{ℕ-discrete}
+use native.Mathlib.Omega.{arith}
+use mathlib.Core.Path.{_≡_, refl, sym, ap, _∙_}
+use mathlib.Core.Logic.{_⊎_, inl, inr}
+use mathlib.Core.List.{List, _++_}
+use mathlib.Core.Bool.{true}
+use mathlib.Core.Option.{Option, none, some, Option·elim}
+use borrow.Author.Tests.{ne-eqb}
+use Rattle.wire.specs.Choice.{both, pick, without}
+use Rattle.wire.specs.Part.{Part}
+use Rattle.wire.proofs.Choice.{firstOf-without}
+use Rattle.rules.specs.declared.Address.{Address}
+use Rattle.rules.specs.Check.{faultLines, formLines, orderLines}
+use Rattle.notification_rules.specs.declared.Notice.{Notice}
+use Rattle.notification_rules.specs.declared.Notice.the-variants.{Found, Nobody, Refused}
+use Rattle.notification_rules.specs.Format.{Nothing, answerTo, foundAt, foundNobody, Notification, OthersGiveNothing, TakenExactly}
+use Rattle.notification_rules.specs.Notice.{loopLines, noticeNumber, noticeOf, noticePlace, notificationForm, partOf, platformLines, refusal}
+use Rattle.notification_rules.proofs.Answered.{written-is-found}
+use Rattle.notification_rules.proofs.Found.{takes}
+use Rattle.notification_rules.proofs.Rewritten.{taken-is-written}
+
+-- ---- the numbers of the lines
+no-line : (n : ℕ) (s : List ℕ) → without n (faultLines notificationForm s ++ (platformLines s ++ loopLines s)) ≡ true
+    → (n ≡ 0 → ⊥) → refusal s ≡ n → ⊥
+unfolding refusal
+no-line n s h z = firstOf-without n (faultLines notificationForm s ++ (platformLines s ++ loopLines s)) h z
+
+number-refused : (device : Address) (s : List ℕ) → (refusal s ≡ 0 → ⊥) → noticeNumber (noticeOf device s) ≡ refusal s
+unfolding noticeOf pick
+number-refused device s h = rw (ne-eqb (refusal s) 0 h)
+
+pub not-refused : (device : Address) (s : List ℕ) → (noticeNumber (noticeOf device s) ≡ 3) ⊎ (noticeNumber (noticeOf device s) ≡ 4)
+    → refusal s ≡ 0
+unfolding without both faultLines formLines orderLines platformLines loopLines
+not-refused device s h = go (ℕ-discrete (refusal s) 0) h
+  where
+    go : Dec (refusal s ≡ 0) → (noticeNumber (noticeOf device s) ≡ 3) ⊎ (noticeNumber (noticeOf device s) ≡ 4) → refusal s ≡ 0
+    go (yes e) h = e
+    go (no e) (inl k) = absurd (no-line 3 s refl (λ z. omega arith) (sym (number-refused device s e) ∙ k))
+    go (no e) (inr k) = absurd (no-line 4 s refl (λ z. omega arith) (sym (number-refused device s e) ∙ k))
+
+-- ---- a value's answer is 3 or 4
+three-or-four : (o : Option Part) → (Option·elim o foundNobody foundAt .number ≡ 3) ⊎ (Option·elim o foundNobody foundAt .number ≡ 4)
+unfolding Option·elim
+three-or-four none = inr refl
+three-or-four (some p) = inl refl
+
+answer-number : (device : Address) (n : Notification) → (answerTo device n .number ≡ 3) ⊎ (answerTo device n .number ≡ 4)
+unfolding answerTo
+answer-number device n = three-or-four _
+
+pub taken-exactly : TakenExactly
+taken-exactly device s b = (
+  λ h. taken-is-written s b (not-refused device s h),
+  λ w.
+      let number : noticeNumber (noticeOf device s) ≡ answerTo device (w .value) .number =
+      ap (λ (x : List ℕ). noticeNumber (noticeOf device x)) (sym (w .is)) ∙ written-is-found device (w .value) (w .conforms) .number in
+      rw number (answer-number device (w .value)),
+)
+
+-- ---- any number but 3
+nothing : (device : Address) (s : List ℕ) (x : Notice) → noticeOf device s ≡ x → ((k : ℕ) → x ≡ Refused k → k ≡ 4 → ⊥)
+    → Nothing device s (noticeNumber x)
+nothing device s (Found p) e h = record { nobody = λ k. absurd (omega arith); refused = λ k. absurd (k refl) }
+nothing device s Nobody e h =
+    record {
+      nobody = λ k. record { notice = e; number = ap noticeNumber e; place = ap noticePlace e; given = ap (partOf s) e };
+      refused = λ j k. absurd (k refl);
+    }
+nothing device s (Refused n) e h =
+    record {
+      nobody = λ k. absurd (h n refl k);
+      refused = λ j k. record { notice = e; number = ap noticeNumber e; place = ap noticePlace e; given = ap (partOf s) e };
+    }
+
+pub others-give-nothing : OthersGiveNothing
+others-give-nothing device s =
+    nothing device s (noticeOf device s) refl
+    (λ k e f. takes device s (not-refused device s (inr (ap noticeNumber e ∙ f))) k e)
