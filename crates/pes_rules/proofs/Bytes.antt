@@ -1,4 +1,4 @@
--- Lists of bytes.
+-- What is cut out of bytes is bytes, and so is what is put together of bytes: each place of the whole is a place of a part.
 use Prim.Native.Nat.{ℕ, zero, suc, _+_, _-_, _/_, _%_, _^_, _≤_, _<_}
 use native.Mathlib.Nat.{mod-lt, sub-zero, suc-sub-suc, zero-sub}
 use native.Mathlib.Decide.{decLe}
