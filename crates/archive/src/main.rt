@@ -45,7 +45,8 @@ fn read_input(buffer: &mut [u8]) -> Input
 
 // The unit's sections, which are the first bytes of `out`, and 0, or nothing and the refusal's number.
 fn sections<'a>(unit: &[u8], out: &'a mut [u8], number: &mut u8) -> &'a mut [u8]
-    ensures { λ r. ⌜ Says (sentOf listingSettings false defaultPiece (now (unit .entry)) (now (out .entry))) (now (number .exit)) (now r) ⌝ }
+    ensures { λ r. ⌜ Says (sentOf listingSettings false defaultPiece (now (unit .entry)) (now (out .entry)))
+        (now (number .exit)) (now r) ⌝ }
 {
     match sender::send_by_default(settings::listing_settings(), false, unit, out) {
         Sending::Sent(length) => {

@@ -1,13 +1,10 @@
 -- Each contract is an equation with the rules' outcome, whose number is by the table and has with it what the paper says.
 use Prim.Native.Nat.{ℕ}
-use mathlib.Core.Path.{_≡_, refl, ap, sym, _∙_}
-use mathlib.Core.Logic.{_↔_}
 use mathlib.Core.Bool.{Bool}
 use mathlib.Core.List.{List}
 use denote.Ref.{now}
 use Rattle.rules.specs.declared.Settings.{Settings}
 use Rattle.rules.specs.declared.State.{State}
-use Rattle.rules.specs.Meaning.{receiverRows, senderRows}
 use Rattle.rules.specs.Send.{defaultPiece, sendingLength, sendingNumber, SendOutcome, sentOf}
 use Rattle.rules.specs.Step.{gapOf, lengthOf, numberOf, Outcome, stepOf}
 use Rattle.rules.proofs.After.{receiver-gives, receiver-names, sender-gives}

@@ -1,7 +1,7 @@
 -- Each contract is an equation with the rules' outcome, of which the rules' theorems speak.
 use Prim.Native.Nat.{ℕ, _≤_, _<_}
 use native.Mathlib.Omega.{arith}
-use mathlib.Core.Path.{_≡_, refl, ap, sym, _∙_}
+use mathlib.Core.Path.{_≡_, ap, sym, _∙_}
 use mathlib.Core.Bool.{Bool}
 use mathlib.Core.List.{List, _++_, flatten, map}
 use lib.ListN.{drop, length, length-map, take}
@@ -10,8 +10,7 @@ use denote.Ref.{now}
 use Rattle.rules.specs.declared.Settings.{Settings}
 use Rattle.rules.specs.declared.Sending.the-variants.{Sent}
 use Rattle.rules.specs.Demand2.{Arrives, Demand2 as Carries}
-use Rattle.rules.specs.Cut.{offers}
-use Rattle.rules.specs.Row.{fresh, Handed, section}
+use Rattle.rules.specs.Row.{fresh, section}
 use Rattle.rules.specs.Send.{defaultPiece, sections, sendingLength, sendingNumber, SendOutcome, sentOf}
 use Rattle.rules.specs.Sound.{table3}
 use Rattle.rules.proofs.Demand2.{round-trip}

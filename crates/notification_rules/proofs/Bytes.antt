@@ -1,6 +1,5 @@
 -- Each field is written as bytes, and bytes side by side are bytes.
-use Prim.Native.Nat.{ℕ, zero, suc, _+_, _*_, _/_, _%_, _^_, _<_}
-use native.Mathlib.Nat.{mod-lt}
+use Prim.Native.Nat.{ℕ, _+_, _*_, _^_, _<_}
 use native.Mathlib.Omega.{arith}
 use mathlib.Core.Path.{refl}
 use mathlib.Core.List.{List, [], _∷_, _++_, flatten, map, List·Memᴰ, List·Memᴰ·head, List·Memᴰ·tail}
@@ -8,16 +7,10 @@ use lib.Bits.{bitXor, xor-lt}
 use lib.Dec.{lit<}
 use lib.ListN.{length}
 use Rattle.wire.specs.Bytes.{bits, Bytes, bytesOf}
+use Rattle.wire.proofs.Bytes.{append-bytes, bytesOf-bytes, cons-bytes, nil-bytes}
 use Rattle.rules.specs.Crc.{crc32}
 use Rattle.rules.specs.Section.{sealed}
 use Rattle.notification_rules.specs.Format.{bodyWritten, Conforms, contentWritten, Descriptor, descriptorWritten, Fits, FitsLoop, headWritten, Held, location, Loop, loopsWritten, loopWritten, masked, Notification, notificationWritten, other, pairWritten, ranges, rangeWritten, SectionIsBytes, tagOf}
-
-nil-bytes : Bytes []
-nil-bytes i = lit< tt
-
-cons-bytes : (b : ℕ) (s : List ℕ) → b < 256 → Bytes s → Bytes (b ∷ s)
-cons-bytes b s h k zero = h
-cons-bytes b s h k (suc i) = k i
 
 -- one by one
 abbrev Each : List ℕ → Type 0
@@ -27,15 +20,6 @@ Each (b ∷ s) = (b < 256) × Each s
 each-bytes : (s : List ℕ) → Each s → Bytes s
 each-bytes [] h = nil-bytes
 each-bytes (b ∷ s) h = cons-bytes b s (h .0) (each-bytes s (h .1))
-
-append-bytes : (s t : List ℕ) → Bytes s → Bytes t → Bytes (s ++ t)
-append-bytes [] t h k = k
-append-bytes (b ∷ s) t h k = cons-bytes b (s ++ t) (h 0) (append-bytes s t (λ i. h (suc i)) k)
-
-bytesOf-bytes : (n x : ℕ) → Bytes (bytesOf n x)
-unfolding bytesOf
-bytesOf-bytes zero x = nil-bytes
-bytesOf-bytes (suc n) x = cons-bytes (x / 256 ^ n % 256) (bytesOf n x) (mod-lt (x / 256 ^ n) (lit< tt)) (bytesOf-bytes n x)
 
 all-bytes : {A : Type 0} (write : A → List ℕ) (xs : List A) → ((x : A) → List·Memᴰ x xs → Bytes (write x)) → Bytes (flatten (map write xs))
 unfolding flatten

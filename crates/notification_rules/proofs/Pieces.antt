@@ -13,7 +13,7 @@ use Rattle.rules.specs.declared.Address.{Address}
 use Rattle.wire.specs.Part.{part}
 use Rattle.notification_rules.specs.Cut.{Size, Cut, stop, more, cutOf, isNil, every, any, placed}
 use Rattle.notification_rules.specs.Loop.{loopSize, descriptorSize, filled, tag, bodyLength, descriptorPieces}
-use Rattle.notification_rules.specs.Target.{rightLength, streamLocation, nowhere, at, located, isLocation, by, coverFrom, isCover, covers, entrySize}
+use Rattle.notification_rules.specs.Target.{rightLength, streamLocation, nowhere, at, located, by, coverFrom, isCover, covers, entrySize}
 use Rattle.notification_rules.specs.Notice.{known}
 use Rattle.notification_rules.proofs.Cuts.{whole-yes, whole-no, cut-stop, cut-more}
 
@@ -94,19 +94,6 @@ unfolding located placed
 located-more o s h =
     ap (λ (c : Cut). located (placed o (c .pieces))) (descriptors-more s h)
     ∙ rw (front (descriptorSize s) 0 s (omega (arith, descriptor-two s)), length-take-le (descriptorSize s) s h)
-
--- whether there is one does not depend on the place
-pub located-any : (o p : ℕ) (ds : List (List ℕ)) → isLocation (located (placed o ds)) ≡ isLocation (located (placed p ds))
-unfolding located placed isLocation pick
-located-any o p [] = refl
-located-any o p (d ∷ ds) = go (eqb (tag d) streamLocation) (located-any (o + length d) (p + length d) ds)
-  where
-    go : (b : Bool)
-        → isLocation (located (placed (o + length d) ds)) ≡ isLocation (located (placed (p + length d) ds))
-        → isLocation (pick b (at (part o d)) (located (placed (o + length d) ds)))
-        ≡ isLocation (pick b (at (part p d)) (located (placed (p + length d) ds)))
-    go true ih = refl
-    go false ih = ih
 
 -- ---- covering
 pub covered-any : (device : Address) (o : ℕ) (ds : List (List ℕ))

@@ -39,7 +39,8 @@ pub record Loop : Type 0 where
   pub reserved4 : ℕ
   pub descriptors : List Descriptor
 
--- the values that table 13 leaves open, in its order; a pair is a target loop and its operational loop
+-- the values that table 13 leaves open, in its order: the three bits of byte 1 behind section_syntax_indicator and two of byte 5 are any;
+-- a pair is a target loop and its operational loop
 pub record Notification : Type 0 where
   pub reserved3 : ℕ
   pub reserved2 : ℕ
@@ -114,7 +115,7 @@ notificationWritten n =
     let loops : List ℕ = loopsWritten (n .platform) (n .pairs) in
     sealed (headWritten n (length loops + 13) ++ loops)
 
--- ---- what can be written: each value fits its bits
+-- ---- what can be written: each value fits its bits, and `other` has none of the three tags
 abbrev pub Held : Descriptor → Type 0
 Held (masked mask xs) = (mask < 2 ^ 48) × ((a : ℕ) → List·Memᴰ a xs → a < 2 ^ 48)
 Held (ranges rs) = (r : ℕ × ℕ) → List·Memᴰ r rs → (r .0 < 2 ^ 48) × (r .1 < 2 ^ 48)

@@ -1,14 +1,14 @@
--- Lists of bytes.
-use Prim.Native.Nat.{ℕ, zero, suc, _+_, _-_, _/_, _%_, _^_, _≤_, _<_}
-use native.Mathlib.Nat.{mod-lt, sub-zero, suc-sub-suc, zero-sub}
+-- What is cut out of bytes is bytes: each place of a part is a place of the whole.
+use Prim.Native.Nat.{ℕ, zero, suc, _+_, _-_, _≤_, _<_}
+use native.Mathlib.Nat.{sub-zero, suc-sub-suc, zero-sub}
 use native.Mathlib.Decide.{decLe}
 use native.Mathlib.Omega.{arith}
 use mathlib.Core.Path.{_≡_, refl, sym}
-use mathlib.Core.List.{List, [], _∷_, _++_}
+use mathlib.Core.List.{List, [], _∷_}
 use lib.Dec.{lit<}
 use lib.ListN.{length, take, drop, length-take, List·getD-eq-default}
 use lib.Seq.{getD-drop, getD-take, slice}
-use Rattle.wire.specs.Bytes.{Bytes, byteAt, bytesOf}
+use Rattle.wire.specs.Bytes.{Bytes, byteAt}
 
 -- a part, as code cuts it
 pub slice-is : (f t : ℕ) (s : List ℕ) → slice f t s ≡ take (t - f) (drop f s)
@@ -29,17 +29,3 @@ slice-bytes f t s h i = rw (getD-drop f (take t s) i 0) (go (decLe (suc (f + i))
     go (no p) =
         let l : length (take t s) ≤ f + i = omega (arith, length-take t s) in
         rw (List·getD-eq-default (take t s) 0 l) (lit< tt)
-
--- ---- lists of bytes
-pub cons-bytes : (b : ℕ) (s : List ℕ) → b < 256 → Bytes s → Bytes (b ∷ s)
-cons-bytes b s h k zero = h
-cons-bytes b s h k (suc i) = k i
-
-pub append-bytes : (s t : List ℕ) → Bytes s → Bytes t → Bytes (s ++ t)
-append-bytes [] t h k = k
-append-bytes (b ∷ s) t h k = cons-bytes b (s ++ t) (h 0) (append-bytes s t (λ i. h (suc i)) k)
-
-pub bytesOf-bytes : (n x : ℕ) → Bytes (bytesOf n x)
-unfolding bytesOf
-bytesOf-bytes zero x = λ i. lit< tt
-bytesOf-bytes (suc n) x = cons-bytes (x / 256 ^ n % 256) (bytesOf n x) (mod-lt (x / 256 ^ n) (lit< tt)) (bytesOf-bytes n x)

@@ -12,7 +12,7 @@ use Rattle.pes_rules.specs.declared.Reading.{Reading}
 use Rattle.pes_rules.specs.Packet.{fault, readOf, refused}
 use Rattle.pes_rules.specs.Written.{extensionField, flagsByte, Gives, optionalFields, OthersGiveNothing, packetOf, rateField, SampleIsWritten, TakenExactly, zeros}
 use Rattle.pes_rules.proofs.Answer.{read-refused, read-taken}
-use Rattle.pes_rules.proofs.Bytes.{cons-bytes}
+use Rattle.wire.proofs.Bytes.{cons-bytes}
 use Rattle.pes_rules.proofs.Read.{taken-is-written}
 use Rattle.pes_rules.proofs.Written.{written-is-read}
 

@@ -14,13 +14,12 @@ use borrow.Author.Tests.{le-ltb}
 use Rattle.wire.specs.Bytes.{Bytes, numberAt, bytesOf}
 use Rattle.wire.specs.Choice.{pick, both, either}
 use Rattle.wire.specs.Part.{part}
-use Rattle.wire.proofs.Bytes.{length-bytesOf, numberAt-bytesOf}
+use Rattle.wire.proofs.Bytes.{append-bytes, bytesOf-bytes, cons-bytes, length-bytesOf, numberAt-bytesOf}
 use Rattle.wire.proofs.Choice.{not-either}
 use Rattle.pes_rules.specs.Packet.{dataIdentifier, subStreamId, ptsExtensionFlag, outputDataRateFlag, pesDataPacketHeaderLength, flagged, ptsExtension, ratePlace, outputDataRate, privatePlace, dataPlace, wrongSize, otherIdentifier, wrongFlags, wrongHeaderLength, taken, readOf}
 use Rattle.pes_rules.specs.declared.Reading.{Reading}
 use Rattle.pes_rules.specs.Written.{Conforms, extensionField, flagsByte, optionalFields, packetOf, PacketIsBytes, rateField, readingOf, Stream, Values, WrittenIsRead}
 use Rattle.pes_rules.proofs.Answer.{fault-none, None, read-taken}
-use Rattle.pes_rules.proofs.Bytes.{append-bytes, bytesOf-bytes, cons-bytes}
 
 -- ---- byte 2
 bit-flag : (x : ℕ) (flag : Bool) → x ≡ cond flag 1 0 → eqb x 1 ≡ flag

@@ -1,6 +1,6 @@
--- Bytes past the end are 0, and a number's bytes, written and read, are the number.
+-- Bytes past the end are 0, a number's bytes, written and read, are the number, and bytes side by side are bytes.
 use Prim.Native.Nat.{ℕ, zero, suc, _+_, _*_, _/_, _%_, _^_, _≤_, _<_}
-use native.Mathlib.Nat.{mod-eq-of-lt, mod-one, mul-assoc, mul-add-div-right, mul-add-mod-self-right, one-le-pow, pow-succ'}
+use native.Mathlib.Nat.{mod-eq-of-lt, mod-lt, mod-one, mul-assoc, mul-add-div-right, mul-add-mod-self-right, one-le-pow, pow-succ'}
 use native.Mathlib.Numerals.{add-one}
 use native.Mathlib.Omega.{arith}
 use mathlib.Core.Path.{_≡_, refl, sym, ap, ap₂, _∙_}
@@ -92,3 +92,20 @@ take-bytes zero i s h = refl
 take-bytes (suc k) i s h =
     let d : drop i s ≡ byteAt s i ∷ drop (i + 1) s = rw (add-one i) (drop-cons s i 0 (omega arith)) in
     ap (take (suc k)) d ∙ ap (λ (l : List ℕ). byteAt s i ∷ l) (take-bytes k (i + 1) s (omega arith))
+
+-- ---- lists of bytes
+pub nil-bytes : Bytes []
+nil-bytes i = lit< tt
+
+pub cons-bytes : (b : ℕ) (s : List ℕ) → b < 256 → Bytes s → Bytes (b ∷ s)
+cons-bytes b s h k zero = h
+cons-bytes b s h k (suc i) = k i
+
+pub append-bytes : (s t : List ℕ) → Bytes s → Bytes t → Bytes (s ++ t)
+append-bytes [] t h k = k
+append-bytes (b ∷ s) t h k = cons-bytes b (s ++ t) (h 0) (append-bytes s t (λ i. h (suc i)) k)
+
+pub bytesOf-bytes : (n x : ℕ) → Bytes (bytesOf n x)
+unfolding bytesOf
+bytesOf-bytes zero x = nil-bytes
+bytesOf-bytes (suc n) x = cons-bytes (x / 256 ^ n % 256) (bytesOf n x) (mod-lt (x / 256 ^ n) (lit< tt)) (bytesOf-bytes n x)
