@@ -12,14 +12,13 @@ use lib.Seq.{drop-drop, getD-append-add, length-take-le, take-add, take-all, tak
 use Rattle.wire.specs.Bytes.{Bytes, byteAt, bytesOf, bits, numberAt}
 use Rattle.wire.proofs.Bytes.{bytesOf-numberAt, numberAt-lt}
 use Rattle.wire.proofs.Choice.{never}
-use borrow.Author.Tests.{eqb-false, eqb-true, leb-true, ltb-false, not-false}
+use borrow.Author.Tests.{eqb-true, leb-true, not-false}
 use lib.Bits.{bitXor}
-use Rattle.wire.specs.Choice.{pick, both, without}
+use Rattle.wire.specs.Choice.{pick, both}
 use Rattle.wire.proofs.Bytes.{bytesFrom, take-bytes}
-use Rattle.wire.proofs.Choice.{both-true, either-false, none-first, none-parts}
-use Rattle.rules.specs.Crc.{crc32}
-use Rattle.rules.specs.Section.{crcField, crcPlace, currentNextIndicator, lastSectionNumber, sealed, sectionLength, sectionNumber, sectionSyntaxIndicator, tableId}
-use Rattle.rules.specs.Check.{faultLines, formLines, notCurrent, orderLines, otherTable, outOfOrder, tooShort, wrongCrc, wrongLength, wrongSyntax}
+use Rattle.wire.proofs.Choice.{both-true, none-first, none-parts}
+use Rattle.rules.specs.Section.{crcPlace, currentNextIndicator, lastSectionNumber, sealed, sectionLength, sectionNumber, sectionSyntaxIndicator, tableId}
+use Rattle.rules.specs.Check.{fault, faultLines}
 use Rattle.rules.proofs.Read.{sealed-is}
 use Rattle.notification_rules.specs.Cut.{Size, cutOf, isNil, odd}
 use Rattle.notification_rules.specs.Loop.{actionType, body, bodyLength, content, descriptorPieces, descriptorSize, filled, loopCut, loopSize, platformIdHash, tag}
@@ -28,7 +27,9 @@ use Rattle.notification_rules.specs.Notice.{fits, known, misfit, notific
 use Rattle.notification_rules.specs.Format.{Descriptor, masked, ranges, location, other, Loop, Notification, tagOf, rangeWritten, nineWritten, bodyWritten, descriptorWritten, contentWritten, loopWritten, loopsWritten, headWritten, notificationWritten, Held, Fits, FitsLoop, Conforms, Written}
 use Rattle.notification_rules.specs.Meaning.{byTurns, Filled, Short}
 use Rattle.notification_rules.proofs.Parts.{descriptor-long, every-one, loop-long, rejoined}
-use Rattle.notification_rules.proofs.Sound.{sound}
+use Rattle.rules.proofs.Check.{fault-numbered}
+use Rattle.rules.proofs.Sound.{Faultless, faultless}
+use Rattle.notification_rules.proofs.Sound.{platform-numbered, sound}
 use Rattle.notification_rules.proofs.Taken.{every-filled, loopsIn, loops-all, loops-back, loops-in, turns-odd}
 
 -- ---- bytes of a part
@@ -352,45 +353,19 @@ filled-exactly s b = (there, back)
 
 -- ---- what each of 12 to 18, 30 and 31 says
 record Head (s : List ℕ) : Type 0 where
-  long : 18 ≤ length s
-  table : tableId s ≡ 0x4C
-  short : length s ≤ 4096
-  whole : sectionLength s + 3 ≡ length s
-  syntax : sectionSyntaxIndicator s ≡ 1
-  crc : crcField s ≡ crc32 (take (crcPlace s) s)
-  current : currentNextIndicator s ≡ 0 → ⊥
-  order : sectionNumber s ≤ lastSectionNumber s
+  shared : Faultless notificationForm s
   action : actionType s ≡ 0x01
   hash : platformIdHash s ≡ bitXor (bitXor (byteAt s 8) (byteAt s 9)) (byteAt s 10)
 
 head : (s : List ℕ) → refusal s ≡ 0 → Head s
-unfolding refusal faultLines formLines orderLines platformLines without both tooShort otherTable wrongLength wrongSyntax wrongCrc notCurrent outOfOrder otherAction wrongHash
+unfolding refusal fault platformLines otherAction wrongHash
 head s p =
-    let lines = none-parts (faultLines notificationForm s) (platformLines s ++ loopLines s) refl p in
-    let parts = none-parts (formLines notificationForm s) _ refl (lines .0) in
-    let plat = none-parts (platformLines s) (loopLines s) refl (lines .1) in
-    let t12 = none-first _ _ (omega arith) (parts .0) in
-    let t13 = none-first _ _ (omega arith) (t12 .1) in
-    let t14 = none-first _ _ (omega arith) (t13 .1) in
-    let t15 = none-first _ _ (omega arith) (t14 .1) in
-    let t16 = none-first _ _ (omega arith) (parts .1) in
-    let t17 = none-first _ _ (omega arith) (t16 .1) in
-    let t18 = none-first _ _ (omega arith) (t17 .1) in
+    let lines = none-parts (faultLines notificationForm s) (platformLines s ++ loopLines s) (fault-numbered notificationForm s) p in
+    let plat = none-parts (platformLines s) (loopLines s) (platform-numbered s) (lines .1) in
     let t30 = none-first _ _ (omega arith) (plat .0) in
     let t31 = none-first _ _ (omega arith) (t30 .1) in
-    let lengths = either-false _ _ (t14 .0) in
-    let indicators = either-false _ _ (t15 .0) in
-    let high : sectionLength s ≤ 4093 = ltb-false _ _ (lengths .0) in
-    let same : sectionLength s + 3 ≡ length s = eqb-true _ _ (not-false _ (lengths .1)) in
     record {
-      long = ltb-false _ _ (t12 .0);
-      table = eqb-true _ _ (not-false _ (t13 .0));
-      short = omega arith;
-      whole = same;
-      syntax = eqb-true _ _ (not-false _ (indicators .0));
-      crc = eqb-true _ _ (not-false _ (t16 .0));
-      current = eqb-false _ _ (t17 .0);
-      order = ltb-false _ _ (t18 .0);
+      shared = faultless notificationForm s (lines .0);
       action = eqb-true _ _ (not-false _ (t30 .0));
       hash = eqb-true _ _ (not-false _ (t31 .0));
     }
@@ -455,14 +430,14 @@ module _ (s : List ℕ) (b : Bytes s) (p : refusal s ≡ 0) where
   loops = loopsWritten (t .platform) (t .pairs)
 
   body-long : length body-bytes + 16 ≡ length s
-  body-long = omega (arith, length-drop 12 (take (crcPlace s) s), length-take-le (crcPlace s) s (omega arith), f .long)
+  body-long = omega (arith, length-drop 12 (take (crcPlace s) s), length-take-le (crcPlace s) s (omega arith), f .shared .long)
 
   counted : length loops + 13 ≡ (byteAt s 1 * 256 + byteAt s 2) % 4096
   unfolding sectionLength numberAt
   counted =
       let two : numberAt 2 s 1 ≡ byteAt s 1 * 256 + byteAt s 2 = omega arith in
       let l : length loops ≡ length body-bytes = ap (λ (l : List ℕ). length l) (t .is) in
-      omega (arith, f .whole, body-long, ap (λ (k : ℕ). k % 4096) two)
+      omega (arith, f .shared .whole, body-long, ap (λ (k : ℕ). k % 4096) two)
 
   platform-is : numberAt 3 s 8 ≡ byteAt s 8 * 65536 + (byteAt s 9 * 256 + byteAt s 10)
   unfolding numberAt
@@ -481,21 +456,21 @@ module _ (s : List ℕ) (b : Bytes s) (p : refusal s ≡ 0) where
         t .0,
         t .1,
         t .2,
-        lengthByte (byteAt s 1) (byteAt s 2) (b 1) (b 2) (f .syntax),
+        lengthByte (byteAt s 1) (byteAt s 2) (b 1) (b 2) (f .shared .syntax),
         byte-2,
-        versionByte (byteAt s 5) (b 5) (f .current),
+        versionByte (byteAt s 5) (b 5) (f .shared .current),
         ← f .hash,
       )
       (ap₂ (λ (t a : ℕ). t ∷ byteAt s 1 ∷ byteAt s 2 ∷ a ∷ byteAt s 4 ∷ byteAt s 5 ∷ byteAt s 6 ∷ byteAt s 7 ∷ byteAt s 8 ∷ byteAt s 9 ∷ byteAt s 10
-      ∷ byteAt s 11 ∷ []) (sym (f .table)) (sym (f .action))
-      ∙ sym (take-bytes 12 0 s (omega (arith, f .long))))
+      ∷ byteAt s 11 ∷ []) (sym (f .shared .table)) (sym (f .action))
+      ∙ sym (take-bytes 12 0 s (omega (arith, f .shared .long))))
 
   written : notificationWritten n ≡ s
   unfolding notificationWritten n
   written =
-      ap₂ (λ (x y : List ℕ). sealed (x ++ y)) (head-is ∙ sym (take-take 12 (crcPlace s) s (omega (arith, f .long)))) (t .is)
+      ap₂ (λ (x y : List ℕ). sealed (x ++ y)) (head-is ∙ sym (take-take 12 (crcPlace s) s (omega (arith, f .shared .long)))) (t .is)
       ∙ ap sealed (take-append-drop 12 (take (crcPlace s) s))
-      ∙ sealed-is s b (omega (arith, f .long)) (f .crc)
+      ∙ sealed-is s b (omega (arith, f .shared .long)) (f .shared .crc)
 
   conforms : Conforms n
   unfolding n sectionNumber lastSectionNumber
@@ -507,10 +482,10 @@ module _ (s : List ℕ) (b : Bytes s) (p : refusal s ≡ 0) where
         order = b 11;
         platformId = numberAt-lt 3 s 8 b;
         highest = b 7;
-        number = f .order;
+        number = f .shared .order;
         platform = t .holds (t .platform) (List·Memᴰ·head refl);
         pairs = pairs-all FitsLoop (t .pairs) (λ l m. t .holds l (List·Memᴰ·tail m));
-        size = rw written (f .short);
+        size = rw written (f .shared .short);
       }
 
 -- what no line applies to is what table 13 writes

@@ -33,7 +33,7 @@ use Rattle.rules.proofs.Sound.{payload-length}
 -- ---- 12 to 18, for any table
 pub gives-fault : (f : Form) (s : List ℕ) (p15 : Type 0) (m : ℕ) (rest : List Row) → Tells (wrongSyntax f s) p15
     → (fault f s ≡ 0 → f .fewest ≤ length s → Gives m rest) → Gives (orElse (faultLines f s) m) (sharedRows (f .fewest) (f .table) p15 s ++ rest)
-unfolding orElse fault faultLines formLines orderLines firstOf tooShort otherTable wrongLength wrongCrc notCurrent outOfOrder tableId crcField currentNextIndicator sectionNumber lastSectionNumber
+unfolding orElse fault faultLines formLines orderLines firstOf tooShort otherTable wrongLength wrongCrc notCurrent outOfOrder tableId sectionLength crcField currentNextIndicator sectionNumber lastSectionNumber
 gives-fault f s p15 m rest h15 g =
     gives-row _ 12 (tells-lt (length s) (f .fewest)) (λ e12.
     gives-row _ 13 (tells-not _ (tells-eq (byteAt s 0) (f .table))) (λ e13.

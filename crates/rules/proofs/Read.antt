@@ -75,11 +75,11 @@ module _ (s : List ℕ) (b : Bytes s) (p : check s ≡ 0) where
   unfolding sectionLength numberAt
   counted =
       let two : numberAt 2 s 1 ≡ byteAt s 1 * 256 + byteAt s 2 = omega arith in
-      ap (λ (n : ℕ). n % 4096) (sym two) ∙ omega (arith, f .whole, f .long, payload-length s (f .long))
+      ap (λ (n : ℕ). n % 4096) (sym two) ∙ omega (arith, f .shared .whole, f .shared .long, payload-length s (f .shared .long))
 
   byte-1 : 0x80 + 0x10 * bits 5 4 (byteAt s 1) + bits 11 8 (length (payload s) + 13) ≡ byteAt s 1
   unfolding sectionSyntaxIndicator privateIndicator
-  byte-1 = rw (← counted) (lengthByte (byteAt s 1) (byteAt s 2) (b 1) (b 2) (f .syntax) (f .private))
+  byte-1 = rw (← counted) (lengthByte (byteAt s 1) (byteAt s 2) (b 1) (b 2) (f .shared .syntax) (f .private))
 
   byte-2 : bits 7 0 (length (payload s) + 13) ≡ byteAt s 2
   byte-2 = rw (← counted) (omega (arith, b 1, b 2))
@@ -90,10 +90,10 @@ module _ (s : List ℕ) (b : Bytes s) (p : check s ≡ 0) where
     where
       go : (t : Bool) → eqb (byteAt s 5 / 2 % 2) 1 ≡ t
           → 0x40 * bits 7 6 (byteAt s 5) + 0x10 * (byteAt s 5 / 16 % 4) + pick t 2 0 + 1 ≡ byteAt s 5
-      go true e = flagByte (byteAt s 5) 1 (b 5) (f .clear) (f .current) (eqb-true _ _ e)
+      go true e = flagByte (byteAt s 5) 1 (b 5) (f .clear) (f .shared .current) (eqb-true _ _ e)
       go false e =
           let other : byteAt s 5 / 2 % 2 ≡ 1 → ⊥ = eqb-false _ _ e in
-          flagByte (byteAt s 5) 0 (b 5) (f .clear) (f .current) (omega arith)
+          flagByte (byteAt s 5) 0 (b 5) (f .clear) (f .shared .current) (omega arith)
 
   -- ---- the section
   -- from byte 1 up to the CRC_32
@@ -105,8 +105,8 @@ module _ (s : List ℕ) (b : Bytes s) (p : check s ≡ 0) where
   front-is : byteAt s 0 ∷ behind ≡ take (length s - 4) s
   unfolding behind payload bytesFrom
   front-is =
-      let e : 12 + (length s - 4 - 12) ≡ length s - 4 = omega (arith, f .long) in
-      ap (λ (l : List ℕ). l ++ take (length s - 4 - 12) (drop 12 s)) (sym (take-bytes 12 0 s (omega (arith, f .long))))
+      let e : 12 + (length s - 4 - 12) ≡ length s - 4 = omega (arith, f .shared .long) in
+      ap (λ (l : List ℕ). l ++ take (length s - 4 - 12) (drop 12 s)) (sym (take-bytes 12 0 s (omega (arith, f .shared .long))))
       ∙ sym (take-add 12 (length s - 4 - 12) s)
       ∙ ap (λ (k : ℕ). take k s) e
 
@@ -115,9 +115,9 @@ module _ (s : List ℕ) (b : Bytes s) (p : check s ≡ 0) where
   unfolding table3 read behind address sectionNumber lastSectionNumber tableId
   read-is =
       rw (byte-1, byte-2, byte-5)
-      (ap (λ (x : ℕ). sealed (x ∷ behind)) (sym (f .table)) ∙ ap sealed front-is ∙ sealed-is s b (omega (arith, f .long)) (f .crc))
+      (ap (λ (x : ℕ). sealed (x ∷ behind)) (sym (f .shared .table)) ∙ ap sealed front-is ∙ sealed-is s b (omega (arith, f .shared .long)) (f .shared .crc))
 
   pub read-limits : Limits (read s)
   unfolding read payloadScramblingControl
   read-limits =
-      record { scrambling = omega arith; reserved1 = omega arith; reserved5 = omega arith; order = f .order; size = payload-small s p }
+      record { scrambling = omega arith; reserved1 = omega arith; reserved5 = omega arith; order = f .shared .order; size = payload-small s p }

@@ -3,7 +3,9 @@ use Prim.Native.Nat.{ℕ, _+_, _-_, _≤_}
 use native.Mathlib.Omega.{arith}
 use mathlib.Core.Path.{_≡_, refl}
 use mathlib.Core.List.{List}
+use mathlib.Core.Bool.{false, not}
 use lib.ListN.{length, take, length-take, length-drop}
+use lib.Dec.{eqb}
 use borrow.Author.Tests.{le-ltb, ltb-false, eqb-false, eqb-true, not-false}
 use Rattle.wire.specs.Choice.{both, first, firstOf, without}
 use Rattle.wire.proofs.Choice.{either-false, none-first, none-parts}
@@ -12,26 +14,25 @@ use Rattle.rules.specs.Section.{addressScramblingControl, crcField, crcP
 use Rattle.rules.specs.Check.{tooShort, otherTable, wrongLength, wrongSyntax, wrongCrc, notCurrent, outOfOrder, addressScrambled, datagramForm}
 use Rattle.rules.specs.declared.Settings.{Settings}
 use Rattle.rules.specs.Step.{bar, barLines, overLimit, payloadScrambled}
-use Rattle.rules.specs.Check.{formLines, orderLines, faultLines, checkLines, check}
+use Rattle.rules.specs.Check.{formLines, orderLines, fault, faultLines, checkLines, check}
+use Rattle.rules.specs.declared.Form.{Form}
 
--- ---- what a sound section is
-pub record Sound (s : List ℕ) : Type 0 where
-  pub long : 16 ≤ length s
-  pub table : tableId s ≡ 0x3E
+-- ---- a section of a form to which none of 12 to 18 applies
+pub record Faultless (f : Form) (s : List ℕ) : Type 0 where
+  pub long : f .fewest ≤ length s
+  pub table : tableId s ≡ f .table
   pub short : length s ≤ 4096
   pub whole : sectionLength s + 3 ≡ length s
   pub syntax : sectionSyntaxIndicator s ≡ 1
-  pub private : privateIndicator s ≡ 0
+  pub private : both (f .private) (not (eqb (privateIndicator s) 0)) ≡ false
   pub crc : crcField s ≡ crc32 (take (crcPlace s) s)
   pub current : currentNextIndicator s ≡ 0 → ⊥
   pub order : sectionNumber s ≤ lastSectionNumber s
-  pub clear : addressScramblingControl s ≡ 0
 
-pub sound : (s : List ℕ) → check s ≡ 0 → Sound s
-unfolding check checkLines faultLines formLines orderLines without both tooShort otherTable wrongLength wrongSyntax wrongCrc notCurrent outOfOrder addressScrambled
-sound s p =
-    let lines = none-parts (faultLines datagramForm s) _ refl p in
-    let parts = none-parts (formLines datagramForm s) _ refl (lines .0) in
+pub faultless : (f : Form) (s : List ℕ) → fault f s ≡ 0 → Faultless f s
+unfolding fault faultLines formLines orderLines without both tooShort otherTable wrongLength wrongSyntax wrongCrc notCurrent outOfOrder
+faultless f s p =
+    let parts = none-parts (formLines f s) _ refl p in
     let t12 = none-first _ _ (omega arith) (parts .0) in
     let t13 = none-first _ _ (omega arith) (t12 .1) in
     let t14 = none-first _ _ (omega arith) (t13 .1) in
@@ -39,7 +40,6 @@ sound s p =
     let t16 = none-first _ _ (omega arith) (parts .1) in
     let t17 = none-first _ _ (omega arith) (t16 .1) in
     let t18 = none-first _ _ (omega arith) (t17 .1) in
-    let t19 = none-first _ _ (omega arith) (lines .1) in
     let lengths = either-false _ _ (t14 .0) in
     let indicators = either-false _ _ (t15 .0) in
     let high : sectionLength s ≤ 4093 = ltb-false _ _ (lengths .0) in
@@ -50,10 +50,27 @@ sound s p =
       short = omega arith;
       whole = same;
       syntax = eqb-true _ _ (not-false _ (indicators .0));
-      private = eqb-true _ _ (not-false _ (indicators .1));
+      private = indicators .1;
       crc = eqb-true _ _ (not-false _ (t16 .0));
       current = eqb-false _ _ (t17 .0);
       order = ltb-false _ _ (t18 .0);
+    }
+
+-- ---- what a sound section is
+pub record Sound (s : List ℕ) : Type 0 where
+  pub shared : Faultless datagramForm s
+  pub private : privateIndicator s ≡ 0
+  pub clear : addressScramblingControl s ≡ 0
+
+pub sound : (s : List ℕ) → check s ≡ 0 → Sound s
+unfolding check checkLines fault faultLines formLines orderLines without both addressScrambled
+sound s p =
+    let lines = none-parts (faultLines datagramForm s) _ refl p in
+    let shared : Faultless datagramForm s = faultless datagramForm s (lines .0) in
+    let t19 = none-first _ _ (omega arith) (lines .1) in
+    record {
+      shared = shared;
+      private = eqb-true _ _ (not-false _ (shared .private));
       clear = eqb-true _ _ (not-false _ (t19 .0));
     }
 
@@ -62,7 +79,7 @@ unfolding payload
 payload-length s h = simp (length-take, length-drop) (omega arith)
 
 pub payload-small : (s : List ℕ) → check s ≡ 0 → length (payload s) ≤ 4080
-payload-small s p = let a : Sound s = sound s p in omega (arith, payload-length s (a .long))
+payload-small s p = let a : Sound s = sound s p in omega (arith, payload-length s (a .shared .long), a .shared .short)
 
 -- ---- neither 20 nor 21 applies
 pub unbarred : (c : Settings) (s : List ℕ) → bar c s ≡ 0 → (payloadScramblingControl s ≡ 0) × (lastSectionNumber s + 1 ≤ c .limit)

@@ -32,7 +32,7 @@ unfolding keyOf
 key-last s = refl
 
 pub in-order : (s : List ℕ) → check s ≡ 0 → sectionNumber s ≤ keyOf s .last
-in-order s p = rw (key-last s) (sound s p .order)
+in-order s p = rw (key-last s) (sound s p .shared .order)
 
 limit-small : (c : Settings) → goodSettings c ≡ true → c .limit ≤ 255
 unfolding goodSettings

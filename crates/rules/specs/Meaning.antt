@@ -1,6 +1,6 @@
 -- What each number means, in document 01's order and words: 'The receiver', 'The sender'. By bytes, bits and lengths, with none of the
 -- receiver's own tests. Theorems, shown in proofs/Meaning.antt.
-use Prim.Native.Nat.{ℕ, zero, suc, _+_, _*_, _-_, _≤_, _<_, min}
+use Prim.Native.Nat.{ℕ, zero, suc, _+_, _*_, _-_, _%_, _^_, _≤_, _<_, min}
 use mathlib.Core.Path.{_≡_}
 use mathlib.Core.Logic.{_↔_, _≢_, _⊎_}
 use mathlib.Core.List.{List, [], _∷_, _++_}
@@ -15,17 +15,20 @@ use Rattle.rules.specs.declared.State.the-variants.{Idle, Open}
 use Rattle.rules.specs.Address.{addressBytes, LastEqual}
 use Rattle.rules.specs.Check.{check}
 use Rattle.rules.specs.Crc.{crc32}
-use Rattle.rules.specs.Section.{sectionLength}
 use Rattle.rules.specs.Send.{defaultPiece, sendingNumber, sentOf}
 use Rattle.rules.specs.Step.{numberOf, stepOf}
 
 -- ---- sections
+-- section_length: the low 12 bits of bytes 1 and 2
+abbrev pub lengthStated : List ℕ → ℕ
+lengthStated s = numberAt 2 s 1 % 2 ^ 12
+
 -- 12 to 18, which the tables share: the fewest bytes of a section, its table_id, and what 15 means
 abbrev pub sharedRows : ℕ → ℕ → Type 0 → List ℕ → List Row
 sharedRows fewest table syntax s =
     12 means (length s < fewest)
     ∷ 13 means (byteAt s 0 ≢ table)
-    ∷ 14 means ((4093 < sectionLength s) ⊎ (sectionLength s + 3 ≢ length s))
+    ∷ 14 means ((4093 < lengthStated s) ⊎ (lengthStated s + 3 ≢ length s))
     ∷ 15 means syntax
     ∷ 16 means (numberAt 4 s (length s - 4) ≢ crc32 (take (length s - 4) s))
     ∷ 17 means (bit 0 (byteAt s 5) ≡ 0)
