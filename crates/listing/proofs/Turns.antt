@@ -9,7 +9,7 @@ use Rattle.rules.specs.Cut.{listingSettings}
 use Rattle.listing.specs.declared.Walk.{Walk}
 use Rattle.listing.specs.Lines.{listing}
 use Rattle.listing.specs.Walk.{Left, Gave, Offered, written, owed, Turned}
-use Rattle.listing.specs.Run.{Turns, begun, turned, Walked, Ended, Ran}
+use Rattle.listing.specs.Run.{Turns, begun, turned, Walked, Ended, Ran, Fresh}
 use Rattle.listing.proofs.Owed.{left-stays, offered-stays, gave-owed, owed-end}
 
 pub turns-owed : {c : Settings} {w r : Walk} {b o u read text b′ o′ u′ : List ℕ} {k : ℕ} → Turns c w b o u k read text r b′ o′ u′
@@ -38,7 +38,7 @@ left-nothing w b a =
 
 module _
     {b o u z b′ o′ u′ final : List ℕ} {s e r : Walk} (zeros : u ≡ z)
-    (owes : (o recording : List ℕ) → owed listingSettings s o z recording ≡ listing recording)
+    (fresh : Fresh s) (owes : (o recording : List ℕ) → owed listingSettings s o z recording ≡ listing recording)
     (a : Ended listingSettings s b o u e b′ o′ u′) (g : Gave e o′ final r) where
   goes-on : (rest : List ℕ) → Left r b′ rest
       → listing (a .walked .read ++ rest) ≡ (a .walked .text ++ final) ++ owed listingSettings r o′ u′ rest
@@ -58,6 +58,7 @@ module _
   ran =
       record {
         start = s;
+        fresh = fresh;
         end = e;
         ended = a;
         final = final;

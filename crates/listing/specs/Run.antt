@@ -3,7 +3,7 @@ use Prim.Native.Nat.{ℕ, _+_, _-_, _^_}
 use mathlib.Core.Logic.{_⊎_}
 use mathlib.Core.Path.{_≡_}
 use mathlib.Core.List.{List, [], _++_}
-use mathlib.Core.Bool.{true}
+use mathlib.Core.Bool.{true, false}
 use Rattle.rules.specs.declared.Settings.{Settings}
 use Rattle.rules.specs.Cut.{listingSettings}
 use Rattle.listing.specs.Lines.{listing}
@@ -29,10 +29,15 @@ pub record Ended (c : Settings) (w : Walk) (b o u : List ℕ) (r : Walk) (b′ o
   pub walked : Walked c w b o u left r b′ o′ u′
   pub ends : (r .done ≡ true) ⊎ ((r .failed ≡ true) ⊎ (left ≡ 0))
 
--- turns from a start to an end, and a write of what their last lines leave: what the writes were given, joined, is the listing of what was
+-- nothing has ended yet, nothing is done, and no write has failed
+abbrev pub Fresh : Walk → Type 0
+Fresh w = (w .over ≡ false) × (w .done ≡ false) × (w .failed ≡ false)
+
+-- turns from a fresh start to an end, and a write of what their last lines leave: what the writes were given, joined, is the listing of what was
 -- offered; where not all is offered, the listing goes on with what is owed
 pub record Ran (b o u : List ℕ) (r : Walk) (b′ o′ u′ : List ℕ) : Type 0 where
   pub start : Walk
+  pub fresh : Fresh start
   pub end : Walk
   pub ended : Ended listingSettings start b o u end b′ o′ u′
   pub final : List ℕ

@@ -33,7 +33,7 @@ returns c =
     let w = c .before .before .before .before .before .before .before .before in
     let s = w .before .before .before .before in
     let f = s .before in
-    ran (f .before .before .before .before .pre) (f .fresh .ensures .0) (rw (s .listing-settings .ensures) at (w .walk-on .ensures .1)) (c .flush .ensures)
+    ran (f .before .before .before .before .pre) (f .fresh .ensures .1 .1) (f .fresh .ensures .0) (rw (s .listing-settings .ensures) at (w .walk-on .ensures .1)) (c .flush .ensures)
 
 pub run-spec : {M : Type 1} → statement M
 run-spec =
