@@ -5,7 +5,7 @@ use mathlib.Core.Bool.{false}
 use mathlib.Core.List.{List, []}
 use lib.ListN.{take}
 use Rattle.io.specs.Counts.{Counts}
-use Rattle.rules.specs.Cut.{listingSettings}
+use Rattle.rules.specs.Recording.{listingSettings}
 use Rattle.rules.specs.Send.{SendOutcome, sendingNumber, sendingLength, sentOf, defaultPiece}
 use Rattle.archive.specs.declared.Input.{Input}
 use Rattle.archive.specs.declared.Input.the-variants.{Bytes, Unreadable}

@@ -5,7 +5,7 @@ use libc::STDIN_FILENO;
 use libc::STDOUT_FILENO;
 use rules::Sending;
 ghost use Rattle.archive.specs.Archive.{Filled, Says, Archived};
-ghost use Rattle.rules.specs.Cut.{listingSettings};
+ghost use Rattle.rules.specs.Recording.{listingSettings};
 ghost use Rattle.rules.specs.Send.{sentOf, defaultPiece};
 ghost use mathlib.Core.Bool.{false};
 
@@ -48,7 +48,7 @@ fn sections<'a>(unit: &[u8], out: &'a mut [u8], number: &mut u8) -> &'a mut [u8]
     ensures { λ r. ⌜ Says (sentOf listingSettings false defaultPiece (now (unit .entry)) (now (out .entry)))
         (now (number .exit)) (now r) ⌝ }
 {
-    match sender::send_by_default(settings::listing_settings(), false, unit, out) {
+    match sender::send_by_default(recording::listing_settings(), false, unit, out) {
         Sending::Sent(length) => {
             *number = 0;
             &mut out[..length]

@@ -9,7 +9,7 @@ use Rattle.rules.specs.Send.{defaultPiece, sendingLength, sendingNumber, SendOu
 use Rattle.rules.specs.Step.{gapOf, lengthOf, numberOf, Outcome, stepOf}
 use Rattle.rules.proofs.After.{receiver-gives, receiver-names, sender-gives}
 use Rattle.rules.proofs.Meaning.{check-means, receiver-means, sender-means}
-use Rattle.numbers.specs.Numbers.{numbersOf, stateOf}
+use Rattle.caller_numbers.specs.Numbers.{numbersOf, stateOf}
 use Rattle.demands.specs.Abroad.{defaultFlag, defaultOutput, defaultSettings, defaultUnit, receiveBuffer, receiveSection, receiveSettings, receiveState, sendFlag, sendOutput, sendSettings, sendSize, sendUnit}
 use Rattle.demands.specs.Demand1.{Demand1, Sends, Steps}
 

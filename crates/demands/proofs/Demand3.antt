@@ -16,7 +16,7 @@ use Rattle.rules.specs.declared.Answer.the-variants.{Delivered, PassedBy, Refus
 use Rattle.rules.proofs.After.{receiver-names}
 use Rattle.rules.proofs.Demand3.{demand-3 as demand-3-holds}
 use Rattle.rules.proofs.Handed.{handedRow}
-use Rattle.numbers.proofs.Meaning.{handed-on}
+use Rattle.caller_numbers.proofs.Meaning.{handed-on}
 use Rattle.demands.specs.Demand3.{a-gap, a-gap-abroad, a-section, a-section-abroad, Demand3, ended, Given, GivenRow, handedAbroad, more}
 
 held : (c : Settings) (h : Held) (e : Event) (k : Held) (d : Handed) → Given c h e k d → k ≡ next c h e

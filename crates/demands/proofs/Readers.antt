@@ -22,8 +22,8 @@ use Rattle.pes_rules.proofs.Answer.{data-within}
 use Rattle.pes_rules.proofs.Exactly.{others-give-nothing as packet-others, taken-exactly as packet-taken}
 use Rattle.pes_rules.proofs.Meaning.{packet-means}
 use Rattle.pes_rules.proofs.Written.{written-is-read}
-use Rattle.numbers.specs.Numbers.{flagNumber}
-use Rattle.exports.specs.Given.{Told}
+use Rattle.caller_numbers.specs.Numbers.{flagNumber}
+use Rattle.fossknut.specs.Given.{Told}
 use Rattle.demands.specs.Abroad.{deviceGiven, sectionGiven}
 use Rattle.demands.specs.Readers.{Notices, packetNumbers, Packets, Readers}
 

@@ -9,12 +9,12 @@ use denote.Triple.Clauses.{AtExit}
 use borrow.Fn.Kinds.{Dens, endedOf}
 use Rattle.rules.specs.declared.Address.{Address}
 use Rattle.rules.specs.declared.Settings.{Settings}
-use Rattle.numbers.specs.Numbers.{addressOf, flagOf, Numbers, numbers, settingsOf}
-use Rattle.exports.proofs.fossknut_receive.Kinds as fossknut-receive-kinds
-use Rattle.exports.proofs.fossknut_gap.Kinds as fossknut-gap-kinds
-use Rattle.exports.proofs.fossknut_send.Kinds as fossknut-send-kinds
-use Rattle.exports.proofs.fossknut_send_by_default.Kinds as fossknut-send-by-default-kinds
-use Rattle.exports.proofs.fossknut_notification.Kinds as fossknut-notification-kinds
+use Rattle.caller_numbers.specs.Numbers.{addressOf, flagOf, Numbers, numbers, settingsOf}
+use Rattle.fossknut.proofs.fossknut_receive.Kinds as fossknut-receive-kinds
+use Rattle.fossknut.proofs.fossknut_gap.Kinds as fossknut-gap-kinds
+use Rattle.fossknut.proofs.fossknut_send.Kinds as fossknut-send-kinds
+use Rattle.fossknut.proofs.fossknut_send_by_default.Kinds as fossknut-send-by-default-kinds
+use Rattle.fossknut.proofs.fossknut_notification.Kinds as fossknut-notification-kinds
 
 -- ---- fossknut_receive: settings, state, section, buffer; state, buffer and unit length after it
 abbrev pub receiveSettings : (κs : Lfts 8) → Dens κs fossknut-receive-kinds.ps → Settings

@@ -14,7 +14,7 @@ use Rattle.rules.specs.After.{NamedByNumber, ReceiverAfter}
 use Rattle.rules.specs.Meaning.{checkRows, receiverRows, senderRows}
 use Rattle.rules.specs.Send.{sendingLength, sendingNumber}
 use Rattle.rules.specs.Step.{lengthOf, numberOf}
-use Rattle.numbers.specs.Numbers.{numbers, numbersOf, stateOf}
+use Rattle.caller_numbers.specs.Numbers.{numbers, numbersOf, stateOf}
 use Rattle.demands.specs.Abroad.{defaultOutput, defaultSettings, defaultUnit, gappedState, lengthByDefault, receiveBuffer, receivedBuffer, receivedLength, receivedState, receiveSection, receiveSettings, receiveState, sendOutput, sendSettings, sendSize, sendUnit, sentByDefault, sentLength, sentOutput}
 use Rattle.demands.specs.Allowed.{Allowed}
 use Rattle.demands.specs.Contracts as contracts

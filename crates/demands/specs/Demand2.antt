@@ -11,7 +11,7 @@ use denote.Ref.{now}
 use Rattle.wire.specs.Bytes.{Bytes}
 use Rattle.rules.specs.declared.Settings.{Settings}
 use Rattle.rules.specs.After.{Written}
-use Rattle.rules.specs.Cut.{offers}
+use Rattle.rules.specs.Recording.{offers}
 use Rattle.rules.specs.Row.{datagram, fresh, Handed, Held, nothing, section}
 use Rattle.rules.specs.Send.{sendingLength, sendingNumber}
 use Rattle.rules.specs.Sound.{Sound, table3}

@@ -11,7 +11,7 @@ use Rattle.wire.specs.Choice.{pick}
 use Rattle.rules.specs.declared.Settings.{Settings}
 use Rattle.rules.specs.Demand3.{CanBeStruck, HandedRight, OfBytes, Once, OnlyOne}
 use Rattle.rules.specs.Row.{datagram, Event, fresh, gap, Handed, handedBy, Held, nothing, section}
-use Rattle.numbers.specs.Numbers.{stateOf}
+use Rattle.caller_numbers.specs.Numbers.{stateOf}
 use Rattle.demands.specs.Abroad.{gappedState, gapState, receiveBuffer, receivedBuffer, receivedLength, receivedState, receiveSection, receiveSettings, receiveState}
 use Rattle.demands.specs.Allowed.{Args, Exit, Result}
 use Rattle.demands.specs.Contracts as contracts

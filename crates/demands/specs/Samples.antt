@@ -6,7 +6,7 @@ use mathlib.Core.Bool.{false}
 use lib.ListN.{replicate, take}
 use Rattle.rules.specs.declared.Settings.{Settings}
 use Rattle.rules.specs.Check.{check}
-use Rattle.rules.specs.Cut.{listingSettings}
+use Rattle.rules.specs.Recording.{listingSettings}
 use Rattle.rules.specs.Section.{sealed, sectionOf}
 use Rattle.rules.specs.Send.{sections}
 use Rattle.rules.specs.Step.{lengthOf, numberOf, Outcome, stepOf}

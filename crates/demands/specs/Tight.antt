@@ -4,7 +4,7 @@ use mathlib.Core.Path.{_≡_}
 use denote.Ref.{now, ptr}
 use Rattle.demands.specs.Abroad.{gappedState, lengthByDefault, placeTold, receivedBuffer, receivedLength, receivedState, sentByDefault, sentLength, sentOutput}
 use Rattle.demands.specs.Allowed.{AnyTwo, Function}
-use Rattle.numbers.specs.Numbers.{numbers}
+use Rattle.caller_numbers.specs.Numbers.{numbers}
 use Rattle.demands.specs.Contracts as contracts
 
 abbrev pub OneResult : Function → Type 0

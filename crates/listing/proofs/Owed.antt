@@ -15,12 +15,12 @@ use Rattle.rules.specs.declared.Settings.{Settings}
 use Rattle.rules.specs.declared.Step.{Step}
 use Rattle.rules.specs.declared.State.{State}
 use Rattle.rules.specs.declared.State.the-variants.{Idle}
-use Rattle.rules.specs.Cut.{offerLength, offersWithin, offers}
+use Rattle.rules.specs.Recording.{offerLength, offersWithin, offers}
 use Rattle.rules.specs.Step.{Outcome, Does, stepOf}
 use Rattle.rules.proofs.Offer.{offer-within, offer-some, offer-window, offers-more}
 use Rattle.listing.specs.declared.Walk.{Walk}
 use Rattle.listing.specs.Text.{line, Put}
-use Rattle.rules.specs.Cut.{listingSettings}
+use Rattle.rules.specs.Recording.{listingSettings}
 use Rattle.listing.specs.Lines.{linesOf, listing}
 use Rattle.listing.specs.Walk.{Fine, atHand, Left, ready, Stays, Kept, offered, outcomeOf, Served, full, Gave, written, owed, Offered, Turned}
 use Rattle.listing.proofs.Text.{put-front}

@@ -5,7 +5,7 @@ use mathlib.Core.Path.{_≡_, refl, ap, sym, _∙_}
 use mathlib.Core.Bool.{true, false, true≢false}
 use mathlib.Core.List.{List, [], _++_, append-assoc, append-nil}
 use Rattle.rules.specs.declared.Settings.{Settings}
-use Rattle.rules.specs.Cut.{listingSettings}
+use Rattle.rules.specs.Recording.{listingSettings}
 use Rattle.listing.specs.declared.Walk.{Walk}
 use Rattle.listing.specs.Lines.{listing}
 use Rattle.listing.specs.Walk.{Left, Gave, Offered, written, owed, Turned}

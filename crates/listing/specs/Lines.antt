@@ -5,7 +5,7 @@ use lib.ListN.{length, replicate}
 use Rattle.rules.specs.declared.Settings.{Settings}
 use Rattle.rules.specs.declared.State.{State}
 use Rattle.rules.specs.declared.State.the-variants.{Idle}
-use Rattle.rules.specs.Cut.{listingSettings, offers}
+use Rattle.rules.specs.Recording.{listingSettings, offers}
 use Rattle.rules.specs.Step.{stepOf}
 use Rattle.listing.specs.Text.{line}
 

@@ -5,7 +5,7 @@ use mathlib.Core.Path.{_≡_}
 use mathlib.Core.List.{List, [], _++_}
 use mathlib.Core.Bool.{true, false}
 use Rattle.rules.specs.declared.Settings.{Settings}
-use Rattle.rules.specs.Cut.{listingSettings}
+use Rattle.rules.specs.Recording.{listingSettings}
 use Rattle.listing.specs.Lines.{listing}
 use Rattle.listing.specs.Walk.{Left, Offered, Gave, written, owed, Turned}
 use Rattle.listing.specs.declared.Walk.{Walk}

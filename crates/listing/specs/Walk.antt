@@ -7,7 +7,7 @@ use lib.Dec.{leb, ltb}
 use lib.ListN.{length, take, drop}
 use Rattle.wire.specs.Choice.{pick, either}
 use Rattle.rules.specs.declared.Settings.{Settings}
-use Rattle.rules.specs.Cut.{offerLength, offers}
+use Rattle.rules.specs.Recording.{offerLength, offers}
 use Rattle.rules.specs.Step.{Outcome, stepOf}
 use Rattle.listing.specs.Text.{line, Put}
 use Rattle.listing.specs.Lines.{linesOf}

@@ -12,7 +12,7 @@ ghost use Prim.Native.Nat.{ℕ, _+_, _≤_, _<_};
 ghost use lib.ListN.{length, drop, take, replicate};
 ghost use Rattle.listing.specs.Text.{decimal, field, line, Put};
 ghost use Rattle.rules.specs.declared.Settings.{Settings as Given};
-ghost use Rattle.rules.specs.Cut.{listingSettings};
+ghost use Rattle.rules.specs.Recording.{listingSettings};
 ghost use Rattle.listing.specs.Lines.{listing};
 ghost use Rattle.listing.specs.Walk.{Fine, Left, ready, Stays, Kept, Served, Room, full, Gave, owed, Turned};
 ghost use Rattle.listing.specs.Run.{Ended, Ran};
@@ -72,8 +72,8 @@ fn put_line(output: &mut [u8], at: usize, offset: u64, answer: Answer) -> usize
     requires { ⌜ at + 63 ≤ length (now output) ⌝ }
     ensures { λ r. ⌜ Put (now (output .entry)) at (line offset answer) r (now (output .exit)) ⌝ }
 {
-    let number = answers::number_of(answer) as u64;
-    let length = answers::length_of(answer) as u64;
+    let number = answer_numbers::number_of(answer) as u64;
+    let length = answer_numbers::length_of(answer) as u64;
     let second = put_field(output, at, offset, b' ');
     let third = put_field(output, second, number, b' ');
     put_field(output, third, length, b'\n')
@@ -92,7 +92,7 @@ fn serve(settings: Settings, walk: Walk, input: &[u8], output: &mut [u8], unit: 
     let start = walk.start;
     let end = walk.end;
     let state = walk.state;
-    let n = fields::offer_length(&input[start..end]);
+    let n = recording::offer_length(&input[start..end]);
     let stop = start + n;
     let step = receiver::receive(settings, state, &input[start..stop], unit);
     let answer = step.answer;
@@ -292,7 +292,7 @@ fn run(input: &mut [u8], output: &mut [u8], unit: &mut [u8]) -> Walk
         r (now (input .exit)) (now (output .exit)) (now (unit .exit)) ⌝ }
 {
     let start = fresh();
-    let end = walk_on(settings::listing_settings(), start, input, output, unit);
+    let end = walk_on(recording::listing_settings(), start, input, output, unit);
     flush(end, output)
 }
 

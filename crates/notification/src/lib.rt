@@ -71,7 +71,7 @@ fn checked<'a>(s: &'a [u8]) -> &'a [u8]
 fn refusal(s: &[u8]) -> u8
     ensures { λ r. ⌜ r ≡ refusal (now (s .entry)) ⌝ }
 {
-    let number = section::fault(notification_form(), s);
+    let number = section_check::fault(notification_form(), s);
     if number != 0 {
         return number;
     }

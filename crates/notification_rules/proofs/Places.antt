@@ -11,7 +11,7 @@ use lib.Seq.{length-take-le}
 use lib.Dec.{eqb}
 use borrow.Author.Tests.{eqb-true}
 use Rattle.wire.specs.Choice.{pick}
-use Rattle.rules.specs.Section.{crcPlace}
+use Rattle.rules.specs.Section.{crcOffset}
 use Rattle.wire.specs.Part.{Part, part}
 use Rattle.notification_rules.specs.Cut.{Cut, cutOf, placed}
 use Rattle.notification_rules.specs.Loop.{loopSize, descriptorSize, checked, loopCut, loopsOf, content, tag, bodyLength, descriptorPieces, descriptorsOf, Pair, pairsOf}
@@ -111,6 +111,6 @@ nine-in s l d ok m e =
     let n = nine-long (tag (d .bytes)) (bodyLength (d .bytes)) (o .1)
     (every-one (λ y. rightLength (tag y) (bodyLength y)) (c .pieces) (d .bytes) k u) in
     record {
-      stands = stands-longer s (crcPlace s) d (placed-stands (checked s) (l .place + 2) (c .pieces) (c .left) d f (o .0));
+      stands = stands-longer s (crcOffset s) d (placed-stands (checked s) (l .place + 2) (c .pieces) (c .left) d f (o .0));
       whole = omega (arith, descriptor-long (content (l .bytes)) (d .bytes) u, n);
     }

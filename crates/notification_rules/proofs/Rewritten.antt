@@ -17,7 +17,7 @@ use lib.Bits.{bitXor}
 use Rattle.wire.specs.Choice.{pick, both}
 use Rattle.wire.proofs.Bytes.{bytesFrom, take-bytes}
 use Rattle.wire.proofs.Choice.{both-true, none-first, none-parts}
-use Rattle.rules.specs.Section.{crcPlace, currentNextIndicator, lastSectionNumber, sealed, sectionLength, sectionNumber, sectionSyntaxIndicator, tableId}
+use Rattle.rules.specs.Section.{crcOffset, currentNextIndicator, lastSectionNumber, sealed, sectionLength, sectionNumber, sectionSyntaxIndicator, tableId}
 use Rattle.rules.specs.Check.{fault, faultLines}
 use Rattle.rules.proofs.Read.{sealed-is}
 use Rattle.notification_rules.specs.Cut.{Size, cutOf, isNil, odd}
@@ -305,20 +305,20 @@ module _ (s : List ℕ) (b : Bytes s) (f : fits (loopCut s) ≡ true) where
   piece l m =
       let parts = both-true _ _ (both-true _ _ f .1) in
       record {
-        long = loop-long (drop 12 (take (crcPlace s) s)) l m;
+        long = loop-long (drop 12 (take (crcOffset s) s)) l m;
         full = every-one (λ l. filled (content l)) pieces l (parts .1) m;
       }
 
-  all-pieces : drop 12 (take (crcPlace s) s) ≡ flatten pieces
+  all-pieces : drop 12 (take (crcOffset s) s) ≡ flatten pieces
   unfolding fits loopCut
-  all-pieces = all-joined loopSize (drop 12 (take (crcPlace s) s)) (both-true _ _ f .0)
+  all-pieces = all-joined loopSize (drop 12 (take (crcOffset s) s)) (both-true _ _ f .0)
 
   turned : (P : List ℕ → Type 0) (good : Loop → Type 0) → ((l : List ℕ) → Bytes l → P l → Read loopWritten good l)
-      → ((l : List ℕ) → List·Memᴰ l pieces → P l) → Turned good (drop 12 (take (crcPlace s) s))
+      → ((l : List ℕ) → List·Memᴰ l pieces → P l) → Turned good (drop 12 (take (crcOffset s) s))
   unfolding fits
   turned P good one h =
       let parts = both-true _ _ (both-true _ _ f .1) in
-      let ls = loops-read P good one pieces h (rw all-pieces at (bytes-drop 12 (take (crcPlace s) s) (bytes-take (crcPlace s) s b))) in
+      let ls = loops-read P good one pieces h (rw all-pieces at (bytes-drop 12 (take (crcOffset s) s) (bytes-take (crcOffset s) s b))) in
       let ts = turns (ls .0) (sym (odd-map loopWritten (ls .0)) ∙ ap odd (ls .1) ∙ parts .0) in
       record {
         platform = ts .0;
@@ -404,13 +404,13 @@ module _ (s : List ℕ) (b : Bytes s) (p : refusal s ≡ 0) where
   f : Head s
   f = head s p
 
-  t : Turned FitsLoop (drop 12 (take (crcPlace s) s))
+  t : Turned FitsLoop (drop 12 (take (crcOffset s) s))
   t =
       turned s b (sound s p .fill) (λ l. Piece l × (known (content l) ≡ true)) FitsLoop typed-read
       (λ l m. (piece s b (sound s p .fill) l m, every-one (λ l. known (content l)) (loopCut s .pieces) l (sound s p .right) m))
 
   abbrev body-bytes : List ℕ
-  body-bytes = drop 12 (take (crcPlace s) s)
+  body-bytes = drop 12 (take (crcOffset s) s)
 
   n : Notification
   n =
@@ -430,7 +430,7 @@ module _ (s : List ℕ) (b : Bytes s) (p : refusal s ≡ 0) where
   loops = loopsWritten (t .platform) (t .pairs)
 
   body-long : length body-bytes + 16 ≡ length s
-  body-long = omega (arith, length-drop 12 (take (crcPlace s) s), length-take-le (crcPlace s) s (omega arith), f .shared .long)
+  body-long = omega (arith, length-drop 12 (take (crcOffset s) s), length-take-le (crcOffset s) s (omega arith), f .shared .long)
 
   counted : length loops + 13 ≡ (byteAt s 1 * 256 + byteAt s 2) % 4096
   unfolding sectionLength numberAt
@@ -468,8 +468,8 @@ module _ (s : List ℕ) (b : Bytes s) (p : refusal s ≡ 0) where
   written : notificationWritten n ≡ s
   unfolding notificationWritten n
   written =
-      ap₂ (λ (x y : List ℕ). sealed (x ++ y)) (head-is ∙ sym (take-take 12 (crcPlace s) s (omega (arith, f .shared .long)))) (t .is)
-      ∙ ap sealed (take-append-drop 12 (take (crcPlace s) s))
+      ap₂ (λ (x y : List ℕ). sealed (x ++ y)) (head-is ∙ sym (take-take 12 (crcOffset s) s (omega (arith, f .shared .long)))) (t .is)
+      ∙ ap sealed (take-append-drop 12 (take (crcOffset s) s))
       ∙ sealed-is s b (omega (arith, f .shared .long)) (f .shared .crc)
 
   conforms : Conforms n

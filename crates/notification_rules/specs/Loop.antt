@@ -4,7 +4,7 @@ use mathlib.Core.Bool.{Bool}
 use mathlib.Core.List.{List, [], _∷_}
 use lib.ListN.{take, drop}
 use Rattle.wire.specs.Bytes.{byteAt, numberAt}
-use Rattle.rules.specs.Section.{crcPlace}
+use Rattle.rules.specs.Section.{crcOffset}
 use Rattle.wire.specs.Part.{Part}
 use Rattle.notification_rules.specs.Cut.{Size, Cut, cutOf, placed, isNil}
 
@@ -26,7 +26,7 @@ descriptorSize s = 2 + byteAt s 1
 
 -- the bytes that the CRC_32 is of
 abbrev pub checked : List ℕ → List ℕ
-checked s = take (crcPlace s) s
+checked s = take (crcOffset s) s
 
 -- where the platform loop begins
 abbrev pub platformPlace : ℕ

@@ -1,15 +1,15 @@
 // One step of the receiver, and the gap notice: document 01, 'The receiver'. The letters are the paper's: f is the filled length.
-use fields::address;
-use fields::last_section_number;
-use fields::llc_snap_flag;
-use fields::payload_scrambling_control;
-use fields::same_address;
-use fields::section_number;
 use rules::Answer;
 use rules::Key;
 use rules::Settings;
 use rules::State;
 use rules::Step;
+use section_fields::address;
+use section_fields::last_section_number;
+use section_fields::llc_snap_flag;
+use section_fields::payload_scrambling_control;
+use section_fields::section_number;
+use settings::same_address;
 use wire::both;
 use wire::first;
 ghost use mathlib.Core.Path.{_≡_};
@@ -214,7 +214,7 @@ pub fn receive(settings: Settings, state: State, s: &[u8], buffer: &mut [u8]) ->
     if unfit != 0 {
         return refuse(unfit);
     }
-    let fault = section::check(s);
+    let fault = section_check::check(s);
     if fault != 0 {
         return refuse(fault);
     }

@@ -15,7 +15,7 @@ use Rattle.rules.specs.declared.Key.{Key}
 use Rattle.rules.specs.declared.Address.{Address}
 use Rattle.rules.specs.declared.Answer.the-variants.{Delivered, Stored}
 use Rattle.rules.specs.Address.{agree, sameAddress}
-use Rattle.rules.specs.Cut.{offers}
+use Rattle.rules.specs.Recording.{offers}
 use Rattle.rules.specs.Demand2.{answerAt, Arrives, RoundTrip}
 use Rattle.rules.specs.Demand3 as InWords
 use Rattle.rules.specs.Sound.{table3, Values}
@@ -26,7 +26,7 @@ use Rattle.rules.proofs.Tested.{elsewhere, joined, Piece, Receivable}
 use Rattle.rules.specs.Section.{header, sealed, sectionLength, sectionOf}
 use Rattle.rules.specs.Send.{piece, sectionAt, sectionCount, sections, sectionsTo, sentOf}
 use Rattle.rules.specs.Step.{finish, keyOf, Outcome, ours, room, stepOf}
-use Rattle.rules.proofs.Cut.{Framed, offers-sections}
+use Rattle.rules.proofs.Recording.{Framed, offers-sections}
 use Rattle.rules.proofs.Due.{Due, refused, finished, stored, due, due-holds, Holds, started}
 use Rattle.rules.proofs.Lists.{map-more}
 use Rattle.rules.proofs.Runs.{EndsIn, only}

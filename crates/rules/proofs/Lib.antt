@@ -2,7 +2,7 @@ pub mod After
 pub mod Check
 pub mod Compared
 pub mod Crc
-pub mod Cut
+pub mod Recording
 pub mod Demand2
 pub mod Demand3
 pub mod Due

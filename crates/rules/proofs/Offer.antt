@@ -11,7 +11,7 @@ use borrow.Author.Tests.{lt-ltb, le-ltb, ne-eqb}
 use Rattle.wire.specs.Bytes.{numberAt}
 use Rattle.wire.specs.Choice.{pick}
 use Rattle.rules.specs.Section.{sectionLength}
-use Rattle.rules.specs.Cut.{offerLength, offersWithin, offers}
+use Rattle.rules.specs.Recording.{offerLength, offersWithin, offers}
 
 -- ---- the offer of what is left, by the bytes left
 pub offer-short : (r : List ℕ) → length r < 3 → offerLength r ≡ length r

@@ -10,7 +10,7 @@ use borrow.Author.Tests.{le-ltb, ltb-false, eqb-false, eqb-true, not-false}
 use Rattle.wire.specs.Choice.{both, first, firstOf, without}
 use Rattle.wire.proofs.Choice.{either-false, none-first, none-parts}
 use Rattle.rules.specs.Crc.{crc32}
-use Rattle.rules.specs.Section.{addressScramblingControl, crcField, crcPlace, currentNextIndicator, lastSectionNumber, payload, payloadScramblingControl, privateIndicator, sectionLength, sectionNumber, sectionSyntaxIndicator, tableId}
+use Rattle.rules.specs.Section.{addressScramblingControl, crcField, crcOffset, currentNextIndicator, lastSectionNumber, payload, payloadScramblingControl, privateIndicator, sectionLength, sectionNumber, sectionSyntaxIndicator, tableId}
 use Rattle.rules.specs.Check.{tooShort, otherTable, wrongLength, wrongSyntax, wrongCrc, notCurrent, outOfOrder, addressScrambled, datagramForm}
 use Rattle.rules.specs.declared.Settings.{Settings}
 use Rattle.rules.specs.Step.{bar, barLines, overLimit, payloadScrambled}
@@ -25,7 +25,7 @@ pub record Faultless (f : Form) (s : List ℕ) : Type 0 where
   pub whole : sectionLength s + 3 ≡ length s
   pub syntax : sectionSyntaxIndicator s ≡ 1
   pub private : both (f .private) (not (eqb (privateIndicator s) 0)) ≡ false
-  pub crc : crcField s ≡ crc32 (take (crcPlace s) s)
+  pub crc : crcField s ≡ crc32 (take (crcOffset s) s)
   pub current : currentNextIndicator s ≡ 0 → ⊥
   pub order : sectionNumber s ≤ lastSectionNumber s
 

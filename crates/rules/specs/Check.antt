@@ -2,12 +2,12 @@
 use Prim.Native.Nat.{ℕ, _+_}
 use mathlib.Core.List.{List, [], _∷_, _++_}
 use mathlib.Core.Bool.{Bool, true, not}
-use lib.ListN.{length, take}
+use lib.ListN.{length}
 use lib.Dec.{eqb, ltb}
 use Rattle.wire.specs.Choice.{both, either, Line, line, firstOf}
 use Rattle.rules.specs.declared.Form.{Form}
 use Rattle.rules.specs.Crc.{crc32}
-use Rattle.rules.specs.Section.{tableId, sectionSyntaxIndicator, privateIndicator, sectionLength, addressScramblingControl, currentNextIndicator, sectionNumber, lastSectionNumber, crcPlace, crcField}
+use Rattle.rules.specs.Section.{tableId, sectionSyntaxIndicator, privateIndicator, sectionLength, addressScramblingControl, currentNextIndicator, sectionNumber, lastSectionNumber, checked, crcField}
 
 -- 12: fewer bytes than the table's sections have
 unfoldable pub tooShort : Form → List ℕ → Bool
@@ -27,7 +27,7 @@ wrongSyntax f s = either (not (eqb (sectionSyntaxIndicator s) 1)) (both (f .priv
 
 -- 16: CRC_32 is not that of all bytes before it
 unfoldable pub wrongCrc : List ℕ → Bool
-wrongCrc s = not (eqb (crcField s) (crc32 (take (crcPlace s) s)))
+wrongCrc s = not (eqb (crcField s) (crc32 (checked s)))
 
 -- 17: current_next_indicator is 0
 unfoldable pub notCurrent : List ℕ → Bool

@@ -9,7 +9,7 @@ use Rattle.rules.specs.declared.Settings.{Settings}
 use Rattle.rules.specs.declared.Sending.the-variants.{Sent}
 use Rattle.rules.specs.declared.Answer.{Answer}
 use Rattle.rules.specs.declared.Answer.the-variants.{Delivered, Stored}
-use Rattle.rules.specs.Cut.{offers}
+use Rattle.rules.specs.Recording.{offers}
 use Rattle.rules.specs.Demand3.{joined, Receivable}
 use Rattle.rules.specs.Meaning.{CutInto}
 use Rattle.rules.specs.Row.{after, fresh, Held, section}

@@ -4,9 +4,10 @@ use Prim.Native.Nat.{ℕ, _+_, _-_, _%_, _^_}
 use mathlib.Core.List.{List, [], _∷_, _++_}
 use mathlib.Core.Bool.{Bool}
 use lib.ListN.{length, take, drop}
-use lib.Dec.{eqb}
+use lib.Dec.{eqb, ltb}
 use Rattle.wire.specs.Bytes.{byteAt, bit, bits, numberAt, bytesOf}
 use Rattle.wire.specs.Choice.{pick}
+use Rattle.wire.specs.Part.{Part, part}
 use Rattle.rules.specs.declared.Address.{Address}
 use Rattle.rules.specs.Crc.{crc32}
 
@@ -59,13 +60,21 @@ lastSectionNumber s = byteAt s 7
 unfoldable pub payload : List ℕ → List ℕ
 payload s = take (length s - 4 - 12) (drop 12 s)
 
+-- the payload as a part of the section; a slice that is too short for header and CRC_32 has none
+abbrev pub payloadPart : List ℕ → Part
+payloadPart s = part (pick (ltb (length s) 16) 0 12) (payload s)
+
 -- where the last four bytes begin
-abbrev pub crcPlace : List ℕ → ℕ
-crcPlace s = length s - 4
+abbrev pub crcOffset : List ℕ → ℕ
+crcOffset s = length s - 4
+
+-- what the CRC_32 is of: all bytes before it
+abbrev pub checked : List ℕ → List ℕ
+checked s = take (crcOffset s) s
 
 -- the last four bytes, high byte first
 unfoldable pub crcField : List ℕ → ℕ
-crcField s = numberAt 4 s (crcPlace s)
+crcField s = numberAt 4 s (crcOffset s)
 
 -- the twelve bytes that a sender writes: reserved bits and current_next_indicator are ones, private_indicator and both
 -- scrambling controls zeros

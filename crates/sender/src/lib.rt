@@ -75,7 +75,7 @@ fn put_section(
     requires { ⌜ (length (now piece) ≤ 4080) × (at + (length (now piece) + 16) ≤ length (now out)) ⌝ }
     ensures { λ r. ⌜ Puts (sectionOf a flag number last (now (piece .entry))) at (now (out .entry)) r (now (out .exit)) ⌝ }
 {
-    let header = header::header(a, flag, number, last, (piece.len() + 13) as u16);
+    let header = section_header::header(a, flag, number, last, (piece.len() + 13) as u16);
     let body = put(&header, at, out);
     let end = put(piece, body, out);
     let sum = wire::u32_bytes(crc::crc_32(&out[at..end]));

@@ -1,9 +1,10 @@
-// Settings: whether they can be used (number 10 of document 01), and those of the programs.
+// A receiver's settings: whether they can be used (number 10 of document 01), and which addresses they take for their own.
 use rules::Address;
 use rules::Settings;
 use wire::both;
+use wire::either;
 ghost use mathlib.Core.Path.{_≡_};
-ghost use Rattle.rules.specs.Cut.{listingSettings};
+ghost use Rattle.rules.specs.Address.{agree, sameAddress};
 ghost use Rattle.rules.specs.Step.{goodSettings};
 
 pub fn good_settings(settings: Settings) -> bool
@@ -14,20 +15,21 @@ pub fn good_settings(settings: Settings) -> bool
     both(both(1 <= range, range <= 6), both(1 <= limit, limit <= 255))
 }
 
-// 02:00:5E:10:20:30, range 6, at most 16 sections.
-pub fn listing_settings() -> Settings
-    ensures { λ r. ⌜ r ≡ listingSettings ⌝ }
+// Two bytes that are compared from a MAC_address_range of k on.
+fn agree(k: usize, range: usize, x: u8, y: u8) -> bool
+    ensures { λ r. ⌜ r ≡ agree k range x y ⌝ }
 {
-    Settings {
-        address: Address {
-            mac1: 0x02,
-            mac2: 0x00,
-            mac3: 0x5e,
-            mac4: 0x10,
-            mac5: 0x20,
-            mac6: 0x30,
-        },
-        range: 6,
-        limit: 16,
-    }
+    either(range < k, x == y)
+}
+
+// The compared bytes of two addresses are equal: `range` of them, from MAC_address_6 upward.
+pub fn same_address(range: usize, a: Address, b: Address) -> bool
+    ensures { λ r. ⌜ r ≡ sameAddress range a b ⌝ }
+{
+    let mac1 = agree(6, range, a.mac1, b.mac1);
+    let from2 = both(agree(5, range, a.mac2, b.mac2), mac1);
+    let from3 = both(agree(4, range, a.mac3, b.mac3), from2);
+    let from4 = both(agree(3, range, a.mac4, b.mac4), from3);
+    let from5 = both(agree(2, range, a.mac5, b.mac5), from4);
+    both(agree(1, range, a.mac6, b.mac6), from5)
 }

@@ -5,7 +5,7 @@ use mathlib.Core.Path.{_≡_, refl, ap, _∙_}
 use mathlib.Core.List.{List, [], _∷_}
 use lib.ListN.{length, take, drop, length-drop}
 use lib.Seq.{take-all}
-use Rattle.rules.specs.Cut.{offerLength, offersWithin, offers}
+use Rattle.rules.specs.Recording.{offerLength, offersWithin, offers}
 use Rattle.rules.proofs.Offer.{offer-some, offers-more}
 
 -- what is left behind the first n bytes

@@ -5,7 +5,7 @@ use rules::Sending;
 ghost use mathlib.Core.Path.{_≡_};
 ghost use Prim.Native.Nat.{_<_};
 ghost use lib.ListN.{length};
-ghost use Rattle.rules.specs.Cut.{offers};
+ghost use Rattle.rules.specs.Recording.{offers};
 ghost use Rattle.vectors.specs.Text.{digit, word};
 
 fn digit(n: u32) -> u8
@@ -54,7 +54,7 @@ fn offer_count(s: &[u8]) -> usize
     let mut rest = s;
     let mut count = 0;
     while rest.len() > 0 {
-        let n = fields::offer_length(rest);
+        let n = recording::offer_length(rest);
         rest = &rest[n..];
         count += 1;
     }
@@ -68,7 +68,7 @@ fn print_number(n: usize) {
 
 // A line of the sender: unit length, piece size, number of sections, their length in all.
 fn send_line(size: usize, unit: &[u8], out: &mut [u8]) {
-    let Sending::Sent(total) = sender::send(settings::listing_settings(), false, size, unit, out)
+    let Sending::Sent(total) = sender::send(recording::listing_settings(), false, size, unit, out)
     else {
         return;
     };

@@ -7,7 +7,7 @@ use denote.Ref.{now}
 use Rattle.wire.proofs.Choice.{was}
 use Rattle.rules.specs.Send.{defaultPiece}
 use Rattle.rules.proofs.Send.{given-fits}
-use Rattle.rules.specs.Cut.{listingSettings}
+use Rattle.rules.specs.Recording.{listingSettings}
 use Rattle.archive.proofs.Says.{says-sent, says-unsent}
 use borrow.Author.Needs.{needs}
 use Rattle.archive.proofs.sections.Statement.{statement}

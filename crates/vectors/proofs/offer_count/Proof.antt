@@ -4,7 +4,7 @@ use native.Mathlib.Omega.{arith}
 use mathlib.Core.Path.{_≡_}
 use lib.ListN.{length}
 use denote.Ref.{now}
-use Rattle.rules.specs.Cut.{offers}
+use Rattle.rules.specs.Recording.{offers}
 use Rattle.rules.proofs.Offer.{offer-within}
 use Rattle.vectors.proofs.Count.{one-less, shorter, none-left}
 use Rattle.vectors.proofs.offer_count.Statement.{statement}

@@ -1,0 +1,25 @@
+-- Number, length and state are read off an answer, and the answer is the outcome's.
+use Prim.Native.Nat.{ℕ}
+use mathlib.Core.Path.{_≡_, ap, _∙_}
+use mathlib.Core.List.{List}
+use Rattle.rules.specs.declared.Sending.{Sending}
+use Rattle.rules.specs.declared.Step.{Step}
+use Rattle.rules.specs.Send.{SendOutcome, sendingNumber, sendingLength, Sends}
+use Rattle.rules.specs.Step.{Outcome, Does, numberOf, lengthOf}
+use Rattle.caller_numbers.specs.Numbers.{Numbers, numbersOf}
+use Rattle.fossknut.specs.Given.{Given, Gives}
+
+pub given : {r l : ℕ} {n : Numbers} {b : List ℕ} (o : Outcome) (t : Step)
+    → Does o t b → r ≡ numberOf (t .answer) → l ≡ lengthOf (t .answer) → n ≡ numbersOf (t .state) → Given o r l n b
+given o t d answer unit state =
+    record {
+      answer = answer ∙ ap (λ (t : Step). numberOf (t .answer)) (d .step);
+      unit = unit ∙ ap (λ (t : Step). lengthOf (t .answer)) (d .step);
+      state = state ∙ ap (λ (t : Step). numbersOf (t .state)) (d .step);
+      buffer = d .buffer;
+    }
+
+pub gives : {o : SendOutcome} {sending : Sending} {r l : ℕ} {out : List ℕ} → Sends o sending out
+    → r ≡ sendingNumber sending → l ≡ sendingLength sending → Gives o r l out
+gives s number length =
+    record { number = number ∙ ap sendingNumber (s .sending); length = length ∙ ap sendingLength (s .sending); output = s .output }

@@ -1,0 +1,37 @@
+-- The wrapped function gives the outcome, and its number and length are read off it.
+use Rattle.fossknut.proofs.Given.{gives}
+use borrow.Author.Needs.{needs}
+use Rattle.fossknut.proofs.fossknut_send.Statement.{statement}
+use Rattle.fossknut.proofs.fossknut_send.Tie as tie
+
+settings-of-requires : tie.Need-settings-of-requires
+settings-of-requires c κs = search needs
+
+send-requires : tie.Need-send-requires
+send-requires c κs = search needs
+
+sending-length-requires : tie.Need-sending-length-requires
+sending-length-requires c κs = search needs
+
+sending-number-requires : tie.Need-sending-number-requires
+sending-number-requires c κs = search needs
+
+same-length : tie.Need-same-length
+same-length c = search needs
+
+returns : tie.Need-returns
+returns c =
+    let sent = c .before .before .before .before in
+    gives (rw (sent .before .before .settings-of .ensures) at (sent .send .ensures))
+    (c .sending-number .ensures) (c .before .sending-length .ensures)
+
+pub fossknut-send-spec : {M : Type 1} → statement M
+fossknut-send-spec =
+    tie.close
+    (tie.spec
+    settings-of-requires
+    send-requires
+    sending-length-requires
+    sending-number-requires
+    same-length
+    returns)

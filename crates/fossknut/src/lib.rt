@@ -1,0 +1,193 @@
+// What the Rust box links: functions on numbers and byte slices only. A slice passes as a pointer and then a length.
+use caller_numbers::address_of;
+use caller_numbers::put;
+use caller_numbers::settings_of;
+use caller_numbers::state_of;
+ghost use mathlib.Core.Path.{_≡_};
+ghost use Rattle.rules.specs.Check.{check};
+ghost use Rattle.rules.specs.Crc.{crc32};
+ghost use Rattle.rules.specs.Send.{sentOf, defaultPiece};
+ghost use Rattle.rules.specs.Step.{stepOf, gapOf};
+ghost use Rattle.caller_numbers.specs.Numbers.{addressOf, settingsOf, flagOf, numbers, stateOf, numbersOf};
+ghost use Rattle.fossknut.specs.Given.{Given, Gives, Noticed, Told};
+ghost use Rattle.notification_rules.specs.Notice.{noticeOf};
+ghost use Rattle.pes_rules.specs.Packet.{readOf};
+
+// CRC_32 of the bytes.
+#[no_mangle]
+pub extern "C" fn fossknut_crc_32(s: &[u8]) -> u32
+    ensures { λ r. ⌜ r ≡ crc32 (now (s .entry)) ⌝ }
+{
+    crc::crc_32(s)
+}
+
+// The first of 12 to 19 that applies to a datagram section, else 0.
+#[no_mangle]
+pub extern "C" fn fossknut_check(s: &[u8]) -> u8
+    ensures { λ r. ⌜ r ≡ check (now (s .entry)) ⌝ }
+{
+    section_check::check(s)
+}
+
+// One step of the receiver, its own address in printed order. Answers the paper's number; `length` gets the unit length.
+// The state travels as numbers: `run` 0 is idle, any other value an open run; a flag other than 0 is 1. What is given back are the numbers
+// of the state after (`numbersOf`), with answer 2 too: there the state is as given, and numbers that no state has are rewritten all the same.
+// Run 7 becomes 1, a flag of 2 becomes 1, and beside run 0 the others become 0.
+#[no_mangle]
+pub extern "C" fn fossknut_receive(
+    mac1: u8,
+    mac2: u8,
+    mac3: u8,
+    mac4: u8,
+    mac5: u8,
+    mac6: u8,
+    range: usize,
+    limit: usize,
+    run: &mut u8,
+    next: &mut usize,
+    last: &mut usize,
+    filled: &mut usize,
+    flag: &mut u8,
+    s: &[u8],
+    buffer: &mut [u8],
+    length: &mut usize,
+) -> u8
+    ensures { λ r. ⌜ Given
+        (stepOf
+        (settingsOf mac1 mac2 mac3 mac4 mac5 mac6 range limit)
+        (stateOf (numbers (now (run .entry)) (now (next .entry)) (now (last .entry)) (now (filled .entry)) (now (flag .entry))))
+        (now (s .entry))
+        (now (buffer .entry)))
+        r
+        (now (length .exit))
+        (numbers (now (run .exit)) (now (next .exit)) (now (last .exit)) (now (filled .exit)) (now (flag .exit)))
+        (now (buffer .exit)) ⌝ }
+{
+    let settings = settings_of(mac1, mac2, mac3, mac4, mac5, mac6, range, limit);
+    let state = state_of(*run, *next, *last, *filled, *flag);
+    let step = receiver::receive(settings, state, s, buffer);
+    let answer = step.answer;
+    let after = step.state;
+    put(after, run, next, last, filled, flag);
+    *length = answer_numbers::length_of(answer);
+    answer_numbers::number_of(answer)
+}
+
+// A gap notice: the numbers become those of the idle state.
+#[no_mangle]
+pub extern "C" fn fossknut_gap(
+    run: &mut u8,
+    next: &mut usize,
+    last: &mut usize,
+    filled: &mut usize,
+    flag: &mut u8,
+)
+    ensures { λ _. ⌜ numbers (now (run .exit)) (now (next .exit)) (now (last .exit)) (now (filled .exit)) (now (flag .exit))
+        ≡ numbersOf (gapOf
+        (stateOf (numbers (now (run .entry)) (now (next .entry)) (now (last .entry)) (now (filled .entry)) (now (flag .entry))))) ⌝ }
+{
+    let state = receiver::gap(state_of(*run, *next, *last, *filled, *flag));
+    put(state, run, next, last, filled, flag);
+}
+
+// The sender. The address is six numbers in printed order, any flag but 0 is 1, and the total length goes to `length`.
+#[no_mangle]
+pub extern "C" fn fossknut_send(
+    mac1: u8,
+    mac2: u8,
+    mac3: u8,
+    mac4: u8,
+    mac5: u8,
+    mac6: u8,
+    range: usize,
+    limit: usize,
+    flag: u8,
+    size: usize,
+    unit: &[u8],
+    out: &mut [u8],
+    length: &mut usize,
+) -> u8
+    ensures { λ r. ⌜ Gives (sentOf (settingsOf mac1 mac2 mac3 mac4 mac5 mac6 range limit) (flagOf flag) size
+        (now (unit .entry)) (now (out .entry))) r (now (length .exit)) (now (out .exit)) ⌝ }
+{
+    let settings = settings_of(mac1, mac2, mac3, mac4, mac5, mac6, range, limit);
+    let sending = sender::send(settings, flag != 0, size, unit, out);
+    *length = answer_numbers::sending_length(sending);
+    answer_numbers::sending_number(sending)
+}
+
+// The same with no piece size given.
+#[no_mangle]
+pub extern "C" fn fossknut_send_by_default(
+    mac1: u8,
+    mac2: u8,
+    mac3: u8,
+    mac4: u8,
+    mac5: u8,
+    mac6: u8,
+    range: usize,
+    limit: usize,
+    flag: u8,
+    unit: &[u8],
+    out: &mut [u8],
+    length: &mut usize,
+) -> u8
+    ensures { λ r. ⌜ Gives (sentOf (settingsOf mac1 mac2 mac3 mac4 mac5 mac6 range limit) (flagOf flag) defaultPiece
+        (now (unit .entry)) (now (out .entry))) r (now (length .exit)) (now (out .exit)) ⌝ }
+{
+    let settings = settings_of(mac1, mac2, mac3, mac4, mac5, mac6, range, limit);
+    let sending = sender::send_by_default(settings, flag != 0, unit, out);
+    *length = answer_numbers::sending_length(sending);
+    answer_numbers::sending_number(sending)
+}
+
+// The INT reader for the device with this address in printed order. With 3 the nine bytes stand at `place` in the section; with any other
+// answer it is 0.
+#[no_mangle]
+pub extern "C" fn fossknut_notification(
+    mac1: u8,
+    mac2: u8,
+    mac3: u8,
+    mac4: u8,
+    mac5: u8,
+    mac6: u8,
+    s: &[u8],
+    place: &mut usize,
+) -> u8
+    ensures { λ r. ⌜ Noticed (noticeOf (addressOf mac1 mac2 mac3 mac4 mac5 mac6) (now (s .entry))) r (now (place .exit)) ⌝ }
+{
+    let notice = notification::notice(address_of(mac1, mac2, mac3, mac4, mac5, mac6), s);
+    *place = notification_numbers::notice_place(notice);
+    notification_numbers::notice_number(notice)
+}
+
+// The PES data packet reader: the answer; flags, values and the data's place in the packet go through the numbers lent.
+#[no_mangle]
+pub extern "C" fn fossknut_pes(
+    packet: &[u8],
+    extended: &mut u8,
+    rated: &mut u8,
+    extension: &mut usize,
+    rate: &mut usize,
+    start: &mut usize,
+    length: &mut usize,
+) -> u8
+    ensures { λ r. ⌜ Told
+        (readOf (now (packet .entry)))
+        r
+        (now (extended .exit))
+        (now (rated .exit))
+        (now (extension .exit))
+        (now (rate .exit))
+        (now (start .exit))
+        (now (length .exit)) ⌝ }
+{
+    let reading = pes::read(packet);
+    *extended = reading.extended as u8;
+    *rated = reading.rated as u8;
+    *extension = reading.extension as usize;
+    *rate = reading.rate as usize;
+    *start = reading.start;
+    *length = pes::data(packet).len();
+    reading.answer
+}

@@ -1,0 +1,48 @@
+-- The code computes the definition.
+use Rattle.rules.specs.Check.{formLines}
+use Rattle.wire.specs.Choice.{firstOf}
+use borrow.Author.Needs.{needs}
+use Rattle.section_check.proofs.form_fault.Statement.{statement}
+use Rattle.section_check.proofs.form_fault.Tie as tie
+
+wrong-syntax-requires : tie.Need-wrong-syntax-requires
+wrong-syntax-requires c κs = search needs
+
+first-requires : tie.Need-first-requires
+first-requires c κs = search needs
+
+wrong-length-requires : tie.Need-wrong-length-requires
+wrong-length-requires c κs = search needs
+
+first-requires-2 : tie.Need-first-requires-2
+first-requires-2 c κs = search needs
+
+other-table-requires : tie.Need-other-table-requires
+other-table-requires c κs = search needs
+
+first-requires-3 : tie.Need-first-requires-3
+first-requires-3 c κs = search needs
+
+too-short-requires : tie.Need-too-short-requires
+too-short-requires c κs = search needs
+
+first-requires-4 : tie.Need-first-requires-4
+first-requires-4 c κs = search needs
+
+returns : tie.Need-returns
+unfolding formLines firstOf
+returns c = cc
+
+pub form-fault-spec : {M : Type 1} → statement M
+form-fault-spec =
+    tie.close
+    (tie.spec
+    wrong-syntax-requires
+    first-requires
+    wrong-length-requires
+    first-requires-2
+    other-table-requires
+    first-requires-3
+    too-short-requires
+    first-requires-4
+    returns)
