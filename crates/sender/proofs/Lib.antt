@@ -1,3 +1,3 @@
-pub mod Puts
-pub mod Stage
+pub mod Sealed
 pub mod Sent
+pub mod Stage

@@ -12,14 +12,14 @@ use Rattle.rules.specs.declared.Settings.{Settings}
 use Rattle.rules.specs.declared.Sending.the-variants.{Sent, Unsent}
 use Rattle.rules.specs.Send.{sections, sendLines, Sends, sentOf, written}
 use Rattle.rules.proofs.Send.{accepted, sent-is, unsent-is}
-use Rattle.sender.specs.Puts.{Puts}
+use Rattle.wire.specs.Puts.{Puts}
 
 module _ (c : Settings) (flag : Bool) (n : ℕ) (u out : List ℕ) where
   pub refused : {r : ℕ} → r ≡ firstOf (sendLines c flag n u out) → (r ≡ 0 → ⊥) → Sends (sentOf c flag n u out) (Unsent r) out
   refused e h =
       rw (unsent-is c flag n u out (λ z. h (e ∙ z))) (record { sending = ap Unsent e; output = refl })
 
-  pub sent : {m : ℕ} {out′ : List ℕ} → firstOf (sendLines c flag n u out) ≡ 0 → Puts (flatten (sections c flag n u)) 0 out m out′
+  pub sent : {m : ℕ} {out′ : List ℕ} → firstOf (sendLines c flag n u out) ≡ 0 → Puts out 0 (flatten (sections c flag n u)) m out′
       → Sends (sentOf c flag n u out) (Sent m) out′
   unfolding written
   sent h p =

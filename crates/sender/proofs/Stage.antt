@@ -1,4 +1,4 @@
--- After i turns the output begins with the first i sections, and what is left of the unit is behind the first i pieces.
+-- After i turns the output begins with the first i sections, and what is left of the unit is what comes after the first i pieces.
 use Prim.Native.Nat.{ℕ, _+_, _*_, _-_, _≤_, _<_, min}
 use native.Mathlib.Decide.{decLe}
 use native.Mathlib.Nat.{le-refl, suc-mul, zero-mul}
@@ -13,8 +13,8 @@ use Rattle.rules.specs.declared.Settings.{Settings}
 use Rattle.rules.specs.Section.{sectionOf}
 use Rattle.rules.specs.Send.{piece, sectionAt, sectionCount, sections, sectionsTo}
 use Rattle.rules.proofs.Send.{Accepted, bytes-more, bytes-to, section-size, sections-bytes}
-use Rattle.sender.specs.Puts.{Puts}
-use Rattle.sender.proofs.Puts.{puts-more}
+use Rattle.wire.specs.Puts.{Puts}
+use Rattle.wire.proofs.Puts.{puts-length, puts-then}
 
 -- as much of a list as there is, up to n
 take-min : (n : ℕ) (s : List ℕ) → take (min n (length s)) s ≡ take n s
@@ -42,7 +42,7 @@ module _ (c : Settings) (flag : Bool) (n : ℕ) (u before : List ℕ) where
     pub within : i ≤ count
     pub same : length out ≡ length before
     pub left : rest ≡ drop (i * n) u
-    pub puts : Puts (flatten (sectionsTo c flag n u i)) 0 before at out
+    pub puts : Puts before 0 (flatten (sectionsTo c flag n u i)) at out
 
   module _ {count last i : ℕ} {rest : List ℕ} {at : ℕ} {out : List ℕ} (s : Stage count last i rest at out) where
     -- what is written and what is left
@@ -60,13 +60,11 @@ module _ (c : Settings) (flag : Bool) (n : ℕ) (u before : List ℕ) where
         (omega (arith, s .accepted .most), omega (arith, placed, total, s .same))
 
     pub stage-next : {at′ : ℕ} {out′ : List ℕ} (m : ℕ) → i < count → m ≡ min n (length rest)
-        → Puts (sectionOf (c .address) flag i last (take m rest)) at out at′ out′
+        → Puts out at (sectionOf (c .address) flag i last (take m rest)) at′ out′
         → Stage count last (i + 1) (take (length rest - m) (drop m rest)) at′ out′
     unfolding sectionAt piece
     stage-next {at′} {out′} m h e p =
         let sec : List ℕ = sectionOf (c .address) flag i last (take m rest) in
-        let size : length sec ≡ length (take m rest) + 16 = section-size (c .address) flag i last (take m rest) in
-        let room : at + length sec ≤ length out = omega (arith, stage-room m h e .1) in
         let cut : take m rest ≡ take n (drop (i * n) u) =
         ap (λ (k : ℕ). take k rest) e ∙ take-min n rest ∙ ap (take n) (s .left) in
         let is : sec ≡ sectionAt c flag n u i = rw (cut, s .ending, s .counted) in
@@ -77,12 +75,12 @@ module _ (c : Settings) (flag : Bool) (n : ℕ) (u before : List ℕ) where
           counted = s .counted;
           ending = s .ending;
           within = omega arith;
-          same = ap length (p .bytes) ∙ length-paste out at sec (length sec) room (le-refl (length sec)) ∙ s .same;
+          same = puts-length p ∙ s .same;
           left =
               take-all (length rest - m) (drop m rest) behind
               ∙ ap (λ (k : ℕ). drop k rest) e ∙ drop-min n rest ∙ ap (drop n) (s .left)
               ∙ drop-drop n (i * n) u ∙ ap (λ (k : ℕ). drop k u) next;
-          puts = rw (add-one i, bytes-more c flag n u i, ← is) (puts-more (omega (arith, s .puts .end, s .same)) (s .puts) p);
+          puts = rw (add-one i, bytes-more c flag n u i, ← is) (puts-then (s .puts) p);
         }
 
   -- nothing is written yet
@@ -96,11 +94,11 @@ module _ (c : Settings) (flag : Bool) (n : ℕ) (u before : List ℕ) where
         within = omega arith;
         same = refl;
         left = rw (zero-mul n);
-        puts = record { end = refl; bytes = paste-zero before 0 [] };
+        puts = record { room = omega arith; end = refl; bytes = paste-zero before 0 [] };
       }
 
   -- all sections are written
   pub stage-end : {count last i : ℕ} {rest : List ℕ} {at : ℕ} {out : List ℕ} → Stage count last i rest at out → count ≤ i
-      → Puts (flatten (sections c flag n u)) 0 before at out
+      → Puts before 0 (flatten (sections c flag n u)) at out
   unfolding sections
   stage-end {count} {last} {i} s h = let is : i ≡ sectionCount n u = omega (arith, s .counted, s .within) in rw is at (s .puts)

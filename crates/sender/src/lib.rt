@@ -3,9 +3,7 @@ use rules::Address;
 use rules::Sending;
 use rules::Settings;
 use wire::both;
-use wire::copy;
-use wire::first;
-ghost use mathlib.Core.Bool.{Bool};
+use wire::put;
 ghost use mathlib.Core.List.{flatten};
 ghost use mathlib.Core.Path.{_≡_};
 ghost use Prim.Native.Nat.{_+_, _≤_};
@@ -15,7 +13,8 @@ ghost use Rattle.wire.specs.Bytes.{Reads};
 ghost use Rattle.wire.specs.Choice.{both, firstOf};
 ghost use Rattle.rules.specs.Section.{sectionOf};
 ghost use Rattle.rules.specs.Send.{sectionCount, sections, sendLines, sentOf, defaultPiece, Sends};
-ghost use Rattle.sender.specs.Puts.{Puts};
+ghost use Rattle.wire.specs.Puts.{Puts};
+ghost use Rattle.sender.specs.Plan.{Planned};
 
 fn size_good(size: usize) -> bool
     ensures { λ r. ⌜ r ≡ both (leb 1 size) (leb size 4080) ⌝ }
@@ -35,31 +34,33 @@ fn section_count(size: usize, unit: &[u8]) -> usize
     count
 }
 
-// The first of 10 and 50 to 53 that applies, else 0. Sections are counted only where 50 and 51 leave numbers that fit.
-fn refusal(settings: Settings, size: usize, unit: &[u8], out: &[u8]) -> u8
-    ensures { λ r. ⌜ ((flag : Bool) → r ≡ firstOf (sendLines settings flag size (now (unit .entry)) (now (out .entry)))) ⌝ }
-{
-    if !settings::good_settings(settings) {
-        return 10;
-    }
-    if !size_good(size) {
-        return 50;
-    }
-    if 65535 < unit.len() {
-        return 51;
-    }
-    let count = section_count(size, unit);
-    let short = first(out.len() < unit.len() + 16 * count, 53, 0);
-    first(settings.limit < count, 52, short)
+// What is done with a unit: it is refused with a number, or cut into so many sections.
+enum Plan {
+    Refused(u8),
+    Cut(usize),
 }
 
-// Lays bytes over the output from `at` on, and gives where they end.
-fn put(s: &[u8], at: usize, out: &mut [u8]) -> usize
-    requires { ⌜ at + length (now s) ≤ length (now out) ⌝ }
-    ensures { λ r. ⌜ Puts (now (s .entry)) at (now (out .entry)) r (now (out .exit)) ⌝ }
+// The first of 10 and 50 to 53 that applies. Sections are counted only where 50 and 51 leave numbers that fit.
+fn decide(settings: Settings, size: usize, unit: &[u8], out: &[u8]) -> Plan
+    ensures { λ r. ⌜ Planned settings size (now (unit .entry)) (now (out .entry)) r ⌝ }
 {
-    copy(s, &mut out[at..]);
-    at + s.len()
+    if !settings::good_settings(settings) {
+        return Plan::Refused(10);
+    }
+    if !size_good(size) {
+        return Plan::Refused(50);
+    }
+    if 65535 < unit.len() {
+        return Plan::Refused(51);
+    }
+    let count = section_count(size, unit);
+    if settings.limit < count {
+        return Plan::Refused(52);
+    }
+    if out.len() < unit.len() + 16 * count {
+        return Plan::Refused(53);
+    }
+    Plan::Cut(count)
 }
 
 // Writes one section at `at`, header, piece and CRC_32, and gives where it ends.
@@ -73,7 +74,7 @@ fn put_section(
     out: &mut [u8],
 ) -> usize
     requires { ⌜ (length (now piece) ≤ 4080) × (at + (length (now piece) + 16) ≤ length (now out)) ⌝ }
-    ensures { λ r. ⌜ Puts (sectionOf a flag number last (now (piece .entry))) at (now (out .entry)) r (now (out .exit)) ⌝ }
+    ensures { λ r. ⌜ Puts (now (out .entry)) at (sectionOf a flag number last (now (piece .entry))) r (now (out .exit)) ⌝ }
 {
     let header = section_header::header(a, flag, number, last, (piece.len() + 13) as u16);
     let body = put(&header, at, out);
@@ -82,12 +83,19 @@ fn put_section(
     put(&sum, end, out)
 }
 
-// Writes the sections of a unit that is not refused.
-fn put_sections(settings: Settings, flag: bool, size: usize, unit: &[u8], out: &mut [u8]) -> usize
+// Writes the sections of a unit that is not refused, from the start of the output, and gives where they end.
+fn put_sections(
+    settings: Settings,
+    flag: bool,
+    size: usize,
+    count: usize,
+    unit: &[u8],
+    out: &mut [u8],
+) -> usize
     requires { ⌜ firstOf (sendLines settings flag size (now unit) (now out)) ≡ 0 ⌝ }
-    ensures { λ r. ⌜ Puts (flatten (sections settings flag size (now (unit .entry)))) 0 (now (out .entry)) r (now (out .exit)) ⌝ }
+    requires { ⌜ count ≡ sectionCount size (now unit) ⌝ }
+    ensures { λ r. ⌜ Puts (now (out .entry)) 0 (flatten (sections settings flag size (now (unit .entry)))) r (now (out .exit)) ⌝ }
 {
-    let count = section_count(size, unit);
     let last = (count - 1) as u8;
     let mut rest = unit;
     let mut at = 0;
@@ -106,11 +114,10 @@ fn put_sections(settings: Settings, flag: bool, size: usize, unit: &[u8], out: &
 pub fn send(settings: Settings, flag: bool, size: usize, unit: &[u8], out: &mut [u8]) -> Sending
     ensures { λ r. ⌜ Sends (sentOf settings flag size (now (unit .entry)) (now (out .entry))) r (now (out .exit)) ⌝ }
 {
-    let number = refusal(settings, size, unit, out);
-    if number != 0 {
-        return Sending::Unsent(number);
+    match decide(settings, size, unit, out) {
+        Plan::Refused(number) => Sending::Unsent(number),
+        Plan::Cut(count) => Sending::Sent(put_sections(settings, flag, size, count, unit, out)),
     }
-    Sending::Sent(put_sections(settings, flag, size, unit, out))
 }
 
 // The piece size where a caller gives none.

@@ -3,6 +3,7 @@ ghost use mathlib.Core.Path.{_≡_};
 ghost use Prim.Native.Nat.{min};
 ghost use Rattle.wire.specs.Bytes.{byteAt, bytesOf, numberAt, over, Reads};
 ghost use Rattle.wire.specs.Choice.{both, either, first};
+ghost use Rattle.wire.specs.Puts.{PutsIfRoom};
 
 // Byte i.
 pub fn byte_at(s: &[u8], i: usize) -> u8
@@ -67,6 +68,20 @@ pub fn copy(src: &[u8], dst: &mut [u8])
         dst[i] = src[i];
         i += 1;
     }
+}
+
+// Lays bytes over the buffer from `at` on and gives where they end; where there is no room for all of them, it does nothing and gives `at`.
+pub fn put(s: &[u8], at: usize, buffer: &mut [u8]) -> usize
+    ensures { λ r. ⌜ PutsIfRoom (now (buffer .entry)) at (now (s .entry)) r (now (buffer .exit)) ⌝ }
+{
+    if buffer.len() < at {
+        return at;
+    }
+    if buffer.len() - at < s.len() {
+        return at;
+    }
+    copy(s, &mut buffer[at..]);
+    at + s.len()
 }
 
 // Both tests hold.

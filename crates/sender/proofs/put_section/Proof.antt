@@ -1,10 +1,21 @@
 -- Three puts in a row, and the CRC_32 of what the first two wrote.
+use Prim.Native.Nat.{_≤_}
 use native.Mathlib.Omega.{arith}
+use lib.ListN.{length}
 use Rattle.rules.specs.Section.{sectionOf}
-use Rattle.sender.proofs.Puts.{puts-sealed}
+use Rattle.sender.proofs.Sealed.{puts-sealed, within}
 use borrow.Author.Needs.{needs}
 use Rattle.sender.proofs.put_section.Statement.{statement}
 use Rattle.sender.proofs.put_section.Tie as tie
+
+-- what the CRC_32 is of lies within the output
+inside : (x : tie.After-put2)
+    → (x .before .before .before .before .before .before .before .before .before .before .args .at ≤ x .put2 .result)
+    × (x .put2 .result ≤ length (x .put2 .last .1 .1 .0))
+inside x =
+    let first = x .before .before .before .before in
+    let start = first .before .before .before .before .before .before in
+    within (omega (arith, start .pre)) (first .put .ensures) (x .put2 .ensures)
 
 add-header : tie.Need-add-header
 add-header c = search needs
@@ -25,13 +36,13 @@ put-requires-2 : tie.Need-put-requires-2
 put-requires-2 c κs = search needs
 
 sub-crc-32 : tie.Need-sub-crc-32
-sub-crc-32 c = search needs
+sub-crc-32 c = inside (c .before .before) .0
 
 part-crc-32-start : tie.Need-part-crc-32-start
-part-crc-32-start c = search needs
+part-crc-32-start c = inside (c .before .before .before) .0
 
 part-crc-32-end : tie.Need-part-crc-32-end
-part-crc-32-end c = search needs
+part-crc-32-end c = inside (c .before .before .before) .1
 
 crc-32-requires : tie.Need-crc-32-requires
 crc-32-requires c κs = search needs

@@ -1,47 +1,42 @@
--- Each turn puts the next section behind the others, and cuts its piece off what is left.
+-- Each turn puts the next section after the others, and cuts its piece off what is left.
 use Prim.Native.Nat.{_-_}
 use native.Mathlib.Omega.{arith}
 use mathlib.Core.Path.{sym}
 use lib.Seq.{length-take-le}
 use denote.Ref.{now}
 use borrow.Author.Needs.{needs}
-use Rattle.rules.proofs.Send.{accepted, count-byte, count-some}
+use Rattle.rules.proofs.Send.{Accepted, accepted, count-byte, count-some}
 use Rattle.sender.proofs.Stage.{Stage, stage-room, stage-next, stage-start, stage-end}
 use Rattle.sender.proofs.put_sections.Statement.{statement}
 use Rattle.sender.proofs.put_sections.Tie as tie
 
 abbrev Inv-loop : tie.InvT-loop
-Inv-loop settings flag size unit out₀ count last rest₀ at₀ i₀ out rest at i =
+Inv-loop settings flag size count unit out₀ last rest₀ at₀ i₀ out rest at i =
     Stage settings flag size unit out₀ count last i rest at out
 
 abbrev μ-loop : tie.MeasureT-loop
-μ-loop settings flag size unit out₀ count last rest₀ at₀ i₀ out rest at i = count - i
+μ-loop settings flag size count unit out₀ last rest₀ at₀ i₀ out rest at i = count - i
 
-section-count-requires : tie.Need-section-count-requires Inv-loop μ-loop
-section-count-requires c κs =
-    let start = c .before .before in
+-- the unit is not refused
+taken : (x : tie.After-slice-known Inv-loop μ-loop)
+    → let a = x .before .before .args in Accepted (a .settings) (a .flag) (a .size) (now (a .unit)) (now (a .out))
+taken x =
+    let start = x .before .before in
     let a = start .args in
-    let k = accepted (a .settings) (a .flag) (a .size) (now (a .unit)) (now (a .out)) (start .pre) in
-    (k .some, k .most, k .unit)
+    accepted (a .settings) (a .flag) (a .size) (now (a .unit)) (now (a .out)) (start .pre .0)
 
 sub-last : tie.Need-sub-last Inv-loop μ-loop
 sub-last c =
-    let a = c .before .before .before .args in
-    omega (arith, c .section-count .ensures .is, count-some (a .size) (now (a .unit)))
+    let a = c .before .before .args in
+    omega (arith, c .before .before .pre .1, count-some (a .size) (now (a .unit)))
 
 cast-last : tie.Need-cast-last Inv-loop μ-loop
-cast-last c =
-    let start = c .before .before .before in
-    let a = start .args in
-    let k = accepted (a .settings) (a .flag) (a .size) (now (a .unit)) (now (a .out)) (start .pre) in
-    omega (arith, c .section-count .ensures .is, count-byte k)
+cast-last c = omega (arith, c .before .before .pre .1, count-byte (taken c))
 
 loop-holds : tie.Need-loop-holds Inv-loop μ-loop
 loop-holds c =
-    let start = c .before .before .before in
-    let a = start .args in
-    let k = accepted (a .settings) (a .flag) (a .size) (now (a .unit)) (now (a .out)) (start .pre) in
-    stage-start (a .settings) (a .flag) (a .size) (now (a .unit)) (now (a .out)) k (c .section-count .ensures .is)
+    let a = c .before .before .args in
+    stage-start (a .settings) (a .flag) (a .size) (now (a .unit)) (now (a .out)) (taken c) (c .before .before .pre .1)
 
 smaller-requires : tie.Need-smaller-requires Inv-loop μ-loop
 smaller-requires c κs = search needs
@@ -57,7 +52,7 @@ slice-aggregate-put-section c = sym (length-take-le _ _ (omega arith))
 put-section-requires : tie.Need-put-section-requires Inv-loop μ-loop
 put-section-requires c κs =
     let turn = c .before .before .before .before in
-    let a = turn .before .before .before .before .before .args in
+    let a = turn .before .before .before .before .args in
     stage-room (a .settings) (a .flag) (a .size) (now (a .unit)) (now (a .out)) (turn .before .loop .inv) _ (turn .loop-test .taken)
     (c .before .before .smaller .ensures)
 
@@ -80,7 +75,7 @@ loop-again : tie.Need-loop-again Inv-loop μ-loop
 loop-again c =
     let put = c .before .before .before in
     let turn = put .before .before .before .before .before in
-    let a = turn .before .before .before .before .before .args in
+    let a = turn .before .before .before .before .args in
     stage-next (a .settings) (a .flag) (a .size) (now (a .unit)) (now (a .out)) (turn .before .loop .inv) _ (turn .loop-test .taken)
     (put .before .before .before .smaller .ensures) (put .put-section .ensures)
 
@@ -89,7 +84,7 @@ same-length c = c .before .loop .inv .same
 
 returns : tie.Need-returns Inv-loop μ-loop
 returns c =
-    let a = c .before .before .before .before .before .args in
+    let a = c .before .before .before .before .args in
     stage-end (a .settings) (a .flag) (a .size) (now (a .unit)) (now (a .out)) (c .before .loop .inv) (c .loop-test .left)
 
 pub put-sections-spec : {M : Type 1} → statement M
@@ -98,7 +93,6 @@ put-sections-spec =
     (tie.spec
     Inv-loop
     μ-loop
-    section-count-requires
     sub-last
     cast-last
     loop-holds

@@ -1,38 +1,56 @@
--- The outcome is decided by the refusal's number.
+-- The outcome is the one that was decided.
 use denote.Ref.{now}
-use Rattle.wire.proofs.Choice.{was}
+use Rattle.sender.specs.Plan.{Planned}
 use Rattle.sender.proofs.Sent.{refused, sent}
 use borrow.Author.Needs.{needs}
 use Rattle.sender.proofs.send.Statement.{statement}
 use Rattle.sender.proofs.send.Tie as tie
 
-refusal-requires : tie.Need-refusal-requires
-refusal-requires c κs = search needs
+decide-requires : tie.Need-decide-requires
+decide-requires c κs = search needs
+
+enum-known-number : tie.Need-enum-known-number
+enum-known-number c = search needs
+
+enum-known-count : tie.Need-enum-known-count
+enum-known-count c = search needs
+
+put-sections-requires : tie.Need-put-sections-requires
+put-sections-requires c κs =
+    let d = c .before .before .before .before in
+    let plan = rw (c .before .before .count .given .1) at (d .decide .ensures) in
+    (plan .1 (d .before .before .before .before .args .flag), plan .0)
 
 same-length : tie.Need-same-length
 same-length c = search needs
 
 returns : tie.Need-returns
 returns c =
-    let a = c .before .before .before .before .before .args in
-    refused (a .settings) (a .flag) (a .size) (now (a .unit)) (now (a .out)) (c .before .refusal .ensures (a .flag)) (c .if1 .taken)
-
-put-sections-requires : tie.Need-put-sections-requires
-put-sections-requires c κs =
-    let r = c .before .before in
-    was (r .refusal .ensures (r .before .before .before .before .args .flag)) (c .before .if1 .left)
+    let d = c .before .before .before in
+    let a = d .before .before .before .before .args in
+    let plan = rw (c .before .number .given .1) at (d .decide .ensures) in
+    refused (a .settings) (a .flag) (a .size) (now (a .unit)) (now (a .out)) (plan .1 (a .flag)) (plan .0)
 
 same-length-2 : tie.Need-same-length-2
 same-length-2 c = search needs
 
 returns-2 : tie.Need-returns-2
 returns-2 c =
-    let r = c .before .before .before .before .before in
-    let a = r .before .before .before .before .args in
-    let none = was (r .refusal .ensures (a .flag)) (c .before .before .before .before .if1 .left) in
-    sent (a .settings) (a .flag) (a .size) (now (a .unit)) (now (a .out)) none (c .before .before .put-sections .ensures)
+    let k = c .before .before .before .before .before in
+    let d = k .before .before in
+    let a = d .before .before .before .before .args in
+    let plan = rw (k .count .given .1) at (d .decide .ensures) in
+    sent (a .settings) (a .flag) (a .size) (now (a .unit)) (now (a .out)) (plan .1 (a .flag)) (c .before .before .put-sections .ensures)
 
 pub send-spec : {M : Type 1} → statement M
 send-spec =
     tie.close
-    (tie.spec refusal-requires same-length returns put-sections-requires same-length-2 returns-2)
+    (tie.spec
+    decide-requires
+    enum-known-number
+    enum-known-count
+    put-sections-requires
+    same-length
+    returns
+    same-length-2
+    returns-2)

@@ -1,0 +1,124 @@
+-- Each return is the first line that applies, or none; the total of 53 is the length of the sections.
+use Prim.Native.Nat.{ℕ, _+_, _*_, _≤_, _<_}
+use native.Mathlib.Omega.{arith}
+use mathlib.Core.Path.{_≡_, refl, ap, sym}
+use mathlib.Core.Bool.{Bool, not}
+use mathlib.Core.List.{List, flatten}
+use lib.Dec.{ltb}
+use lib.ListN.{length}
+use denote.Ref.{now}
+use borrow.Author.Tests.{leb-true, lt-ltb, le-ltb, not-false}
+use Rattle.rules.proofs.Send.{sections-bytes}
+use Rattle.wire.specs.Choice.{first, firstOf}
+use Rattle.wire.proofs.Choice.{both-true, yes-first, not-first, was}
+use Rattle.rules.specs.declared.Settings.{Settings}
+use Rattle.rules.specs.Send.{sectionCount, sections, sendLines}
+use borrow.Author.Needs.{needs}
+use Rattle.sender.proofs.decide.Statement.{statement}
+use Rattle.sender.proofs.decide.Tie as tie
+
+-- what 52 and 53 decide where 10, 50 and 51 do not apply
+unfoldable counted : Settings → Bool → ℕ → List ℕ → List ℕ → ℕ
+counted k flag n u out = first (ltb (k .limit) (sectionCount n u)) 52 (first (ltb (length out) (length (flatten (sections k flag n u)))) 53 0)
+
+past : (x : tie.Else3) (flag : Bool) {m : ℕ}
+    → let a = x .before .before .before .before .before .before .before .args in
+    m ≡ counted (a .settings) flag (a .size) (now (a .unit)) (now (a .out))
+    → m ≡ firstOf (sendLines (a .settings) flag (a .size) (now (a .unit)) (now (a .out)))
+unfolding sendLines firstOf counted
+past x flag h =
+    let good = x .before .before .before in
+    not-first 10 _ (was (ap not (good .before .good-settings .ensures)) (good .if1 .left))
+    (not-first 50 _ (was (ap not (x .before .before .size-good .ensures)) (x .before .if2 .left))
+    (not-first 51 _ (le-ltb 65535 _ (x .if3 .left)) h))
+
+some : (x : tie.Else3) → 1 ≤ x .before .before .before .before .before .before .before .args .size
+some x = leb-true 1 _ (both-true _ _ (not-false _ (was (ap not (x .before .before .size-good .ensures)) (x .before .if2 .left))) .0)
+
+-- the test of 53 is of the sections' length
+short : (x : tie.After-section-count) (flag : Bool)
+    → let a = x .before .before .before .before .before .before .before .before .args in
+    length (now (a .unit)) + 16 * x .section-count .result ≡ length (flatten (sections (a .settings) flag (a .size) (now (a .unit))))
+short x flag =
+    let a = x .before .before .before .before .before .before .before .before .args in
+    rw (x .section-count .ensures .is) (sym (sections-bytes (a .settings) flag (a .size) (now (a .unit)) (some (x .before))))
+
+good-settings-requires : tie.Need-good-settings-requires
+good-settings-requires c κs = search needs
+
+returns : tie.Need-returns
+unfolding sendLines firstOf
+returns c = (λ z. omega (arith, z), λ flag. yes-first 10 _ (was (ap not (c .before .good-settings .ensures)) (c .if1 .taken)))
+
+size-good-requires : tie.Need-size-good-requires
+size-good-requires c κs = search needs
+
+returns-2 : tie.Need-returns-2
+unfolding sendLines firstOf
+returns-2 c =
+    (λ z. omega (arith, z), λ flag.
+    not-first 10 _ (was (ap not (c .before .before .before .good-settings .ensures)) (c .before .before .if1 .left))
+    (yes-first 50 _ (was (ap not (c .before .size-good .ensures)) (c .if2 .taken))))
+
+returns-3 : tie.Need-returns-3
+unfolding sendLines firstOf
+returns-3 c =
+    let s = c .before .before in
+    (λ z. omega (arith, z), λ flag.
+    not-first 10 _ (was (ap not (s .before .before .good-settings .ensures)) (s .before .if1 .left))
+    (not-first 50 _ (was (ap not (s .size-good .ensures)) (c .before .if2 .left)) (yes-first 51 _ (lt-ltb 65535 _ (c .if3 .taken)))))
+
+section-count-requires : tie.Need-section-count-requires
+section-count-requires c κs =
+    let parts = both-true _ _ (not-false _ (was (ap not (c .before .before .size-good .ensures)) (c .before .if2 .left))) in
+    (leb-true 1 _ (parts .0), leb-true _ 4080 (parts .1), c .if3 .left)
+
+returns-4 : tie.Need-returns-4
+unfolding counted
+returns-4 c =
+    let n = c .before .before in
+    let a = n .before .before .before .before .before .before .before .before .args in
+    let over : a .settings .limit < sectionCount (a .size) (now (a .unit)) = omega (arith, c .if4 .taken, n .section-count .ensures .is) in
+    (λ z. omega (arith, z), λ flag. past (n .before) flag (yes-first 52 _ (lt-ltb _ _ over)))
+
+mul-if5 : tie.Need-mul-if5
+mul-if5 c = search needs
+
+add-if5 : tie.Need-add-if5
+add-if5 c = search needs
+
+returns-5 : tie.Need-returns-5
+unfolding counted
+returns-5 c =
+    let n = c .before .before .before in
+    let a = n .before .before .before .before .before .before .before .before .args in
+    let within : sectionCount (a .size) (now (a .unit)) ≤ a .settings .limit = omega (arith, c .before .if4 .left, n .section-count .ensures .is) in
+    (λ z. omega (arith, z), λ flag.
+    past (n .before) flag (not-first 52 _ (le-ltb _ _ within)
+    (yes-first 53 _ (lt-ltb _ _ (rw (short n flag) at (c .if5 .taken))))))
+
+returns-6 : tie.Need-returns-6
+unfolding counted
+returns-6 c =
+    let n = c .before .before .before in
+    let a = n .before .before .before .before .before .before .before .before .args in
+    let within : sectionCount (a .size) (now (a .unit)) ≤ a .settings .limit = omega (arith, c .before .if4 .left, n .section-count .ensures .is) in
+    (n .section-count .ensures .is, λ flag. sym
+    (past (n .before) flag (not-first 52 _ (le-ltb _ _ within)
+    (not-first 53 _ (le-ltb _ _ (rw (short n flag) at (c .if5 .left))) refl))))
+
+pub decide-spec : {M : Type 1} → statement M
+decide-spec =
+    tie.close
+    (tie.spec
+    good-settings-requires
+    returns
+    size-good-requires
+    returns-2
+    returns-3
+    section-count-requires
+    returns-4
+    mul-if5
+    add-if5
+    returns-5
+    returns-6)
