@@ -10,7 +10,7 @@ use Rattle.rules.specs.Step.{gapOf, lengthOf, numberOf, Outcome, stepOf}
 use Rattle.rules.proofs.After.{receiver-gives, receiver-names, sender-gives}
 use Rattle.rules.proofs.Meaning.{check-means, receiver-means, sender-means}
 use Rattle.caller_numbers.specs.Numbers.{numbersOf, stateOf}
-use Rattle.demands.specs.Abroad.{defaultFlag, defaultOutput, defaultSettings, defaultUnit, receiveBuffer, receiveSection, receiveSettings, receiveState, sendFlag, sendOutput, sendSettings, sendSize, sendUnit}
+use Rattle.demands.specs.Abroad.{defaultGiven, receiveGiven, ReceiveGiven, sendGiven, SendGiven, sizeGiven}
 use Rattle.demands.specs.Demand1.{Demand1, Sends, Steps}
 
 -- a step and a sending are those of the rules
@@ -26,24 +26,21 @@ pub demand-1 : Demand1
 unfolding gapOf numbersOf
 demand-1 =
     record {
-      check = λ κs a z e p. rw p (check-means (now (a .0)));
-      receive = λ κs a z e p. rw (p .step, p .buffer) (steps (a .0) (a .1 .0) (now (a .1 .1 .0)) (now (a .1 .1 .1 .0)));
-      named = λ κs a z e p. rw (p .step) (receiver-names (a .0) (a .1 .0) (now (a .1 .1 .0)) (now (a .1 .1 .1 .0)));
+      check = λ κs (s, _) z e p. rw p (check-means (now s));
+      receive = λ κs (c, (σ, (s, (b, _)))) z e p. rw (p .step, p .buffer) (steps c σ (now s) (now b));
+      named = λ κs (c, (σ, (s, (b, _)))) z e p. rw (p .step) (receiver-names c σ (now s) (now b));
       gap = λ κs a z e p. p;
-      send = λ κs a z e p.
-          rw (p .sending, p .output) (sends (a .0) (a .1 .0) (a .1 .1 .0) (now (a .1 .1 .1 .0)) (now (a .1 .1 .1 .1 .0)));
-      send-by-default = λ κs a z e p.
-          rw (p .sending, p .output) (sends (a .0) (a .1 .0) defaultPiece (now (a .1 .1 .0)) (now (a .1 .1 .1 .0)));
-      fossknut-check = λ κs a z e p. rw p (check-means (now (a .0)));
-      fossknut-receive = λ κs a z e p. (
-        stepOf (receiveSettings κs a) (stateOf (receiveState κs a)) (receiveSection κs a) (receiveBuffer κs a) .step .state,
+      send = λ κs (c, (flag, (size, (u, (out, _))))) z e p. rw (p .sending, p .output) (sends c flag size (now u) (now out));
+      send-by-default = λ κs (c, (flag, (u, (out, _)))) z e p. rw (p .sending, p .output) (sends c flag defaultPiece (now u) (now out));
+      fossknut-check = λ κs (s, _) z e p. rw p (check-means (now s));
+      fossknut-receive = λ κs a z e p. let g : ReceiveGiven = receiveGiven κs a in (
+        stepOf (g .settings) (stateOf (g .state)) (g .section) (g .buffer) .step .state,
         p .state,
-        rw (p .answer, p .unit, p .buffer) (steps (receiveSettings κs a) (stateOf (receiveState κs a)) (receiveSection κs a) (receiveBuffer κs a)),
+        rw (p .answer, p .unit, p .buffer) (steps (g .settings) (stateOf (g .state)) (g .section) (g .buffer)),
       );
       fossknut-gap = λ κs a z e p. p;
-      fossknut-send = λ κs a z e p.
-          rw (p .number, p .length, p .output) (sends (sendSettings κs a) (sendFlag κs a) (sendSize κs a) (sendUnit κs a) (sendOutput κs a));
-      fossknut-send-by-default = λ κs a z e p.
-          rw (p .number, p .length, p .output)
-          (sends (defaultSettings κs a) (defaultFlag κs a) defaultPiece (defaultUnit κs a) (defaultOutput κs a));
+      fossknut-send = λ κs a z e p. let g : SendGiven = sendGiven κs a in
+          rw (p .number, p .length, p .output) (sends (g .settings) (g .flag) (sizeGiven κs a) (g .unit) (g .output));
+      fossknut-send-by-default = λ κs a z e p. let g : SendGiven = defaultGiven κs a in
+          rw (p .number, p .length, p .output) (sends (g .settings) (g .flag) defaultPiece (g .unit) (g .output));
     }

@@ -17,7 +17,7 @@ use Rattle.rules.proofs.Demand2.{round-trip}
 use Rattle.rules.proofs.Exactly.{sound-exactly}
 use Rattle.rules.proofs.Handed.{arrives-handed, handedRow}
 use Rattle.rules.proofs.Send.{Given, given, given-bytes, sent-by-number}
-use Rattle.demands.specs.Abroad.{defaultFlag, defaultOutput, defaultSettings, defaultUnit, sendFlag, sendOutput, sendSettings, sendSize, sendUnit}
+use Rattle.demands.specs.Abroad.{defaultGiven, sendGiven, SendGiven, sizeGiven}
 use Rattle.demands.specs.Demand2.{Demand2, GivenBack, SentRight}
 use Rattle.demands.proofs.Demand3.{row-handed}
 
@@ -54,18 +54,14 @@ sent-right c flag size u out h =
 pub demand-2 : Demand2
 demand-2 =
     record {
-      check = λ κs a z e p b. rw p (sound-exactly (now (a .0)) b);
-      send = λ κs a z e p q.
-          rw (p .sending, p .output)
-          (sent-right (a .0) (a .1 .0) (a .1 .1 .0) (now (a .1 .1 .1 .0)) (now (a .1 .1 .1 .1 .0)) (sym (ap sendingNumber (p .sending)) ∙ q));
-      send-by-default = λ κs a z e p q.
-          rw (p .sending, p .output)
-          (sent-right (a .0) (a .1 .0) defaultPiece (now (a .1 .1 .0)) (now (a .1 .1 .1 .0)) (sym (ap sendingNumber (p .sending)) ∙ q));
-      fossknut-check = λ κs a z e p b. rw p (sound-exactly (now (a .0)) b);
-      fossknut-send = λ κs a z e p q.
-          rw (p .length, p .output)
-          (sent-right (sendSettings κs a) (sendFlag κs a) (sendSize κs a) (sendUnit κs a) (sendOutput κs a) (sym (p .number) ∙ q));
-      fossknut-send-by-default = λ κs a z e p q.
-          rw (p .length, p .output)
-          (sent-right (defaultSettings κs a) (defaultFlag κs a) defaultPiece (defaultUnit κs a) (defaultOutput κs a) (sym (p .number) ∙ q));
+      check = λ κs (s, _) z e p b. rw p (sound-exactly (now s) b);
+      send = λ κs (c, (flag, (size, (u, (out, _))))) z e p q.
+          rw (p .sending, p .output) (sent-right c flag size (now u) (now out) (sym (ap sendingNumber (p .sending)) ∙ q));
+      send-by-default = λ κs (c, (flag, (u, (out, _)))) z e p q.
+          rw (p .sending, p .output) (sent-right c flag defaultPiece (now u) (now out) (sym (ap sendingNumber (p .sending)) ∙ q));
+      fossknut-check = λ κs (s, _) z e p b. rw p (sound-exactly (now s) b);
+      fossknut-send = λ κs a z e p q. let g : SendGiven = sendGiven κs a in
+          rw (p .length, p .output) (sent-right (g .settings) (g .flag) (sizeGiven κs a) (g .unit) (g .output) (sym (p .number) ∙ q));
+      fossknut-send-by-default = λ κs a z e p q. let g : SendGiven = defaultGiven κs a in
+          rw (p .length, p .output) (sent-right (g .settings) (g .flag) defaultPiece (g .unit) (g .output) (sym (p .number) ∙ q));
     }

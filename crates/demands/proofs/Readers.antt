@@ -24,7 +24,7 @@ use Rattle.pes_rules.proofs.Meaning.{packet-means}
 use Rattle.pes_rules.proofs.Written.{written-is-read}
 use Rattle.caller_numbers.specs.Numbers.{flagNumber}
 use Rattle.fossknut.specs.Given.{Told}
-use Rattle.demands.specs.Abroad.{deviceGiven, sectionGiven}
+use Rattle.demands.specs.Abroad.{NotificationGiven, notificationGiven}
 use Rattle.demands.specs.Readers.{Notices, packetNumbers, Packets, Readers}
 
 -- what is equal to the rules' number has its meaning
@@ -89,12 +89,12 @@ given {s = s} t g =
 pub readers : Readers
 readers =
     record {
-      notice = λ κs a z e p. notices (a .0) (now (a .1 .0)) (noticeNumber z) _ (ap noticeNumber p) (λ x g. p ∙ g .notice);
-      notification-read = λ κs a z e p.
-          notices (a .0) (now (a .1 .0)) _ _ (p .number) (λ x g. (p .number ∙ g .number, same-part _ _ _ z (g .given) (p .part)));
-      fossknut-notification = λ κs a z e p.
-          notices (deviceGiven κs a) (sectionGiven κs a) z _ (p .number) (λ x g. (p .number ∙ g .number, p .place ∙ g .place));
-      pes-read = λ κs a z e p. packets (now (a .0)) (z .answer) _ (ap (λ (r : Reading). r .answer) p) (λ r q g. p ∙ g .reading);
-      pes-data = λ κs a z e p. (readOf (now (a .0)) .answer, packets (now (a .0)) _ _ refl (λ r q g. same-part _ _ _ z (g .given) p));
-      fossknut-pes = λ κs a z e p. packets (now (a .0)) z _ (p .answer) (λ r q g. given p g);
+      notice = λ κs (device, (s, _)) z e p. notices device (now s) (noticeNumber z) _ (ap noticeNumber p) (λ x g. p ∙ g .notice);
+      notification-read = λ κs (device, (s, _)) z e p.
+          notices device (now s) _ _ (p .number) (λ x g. (p .number ∙ g .number, same-part _ _ _ z (g .given) (p .part)));
+      fossknut-notification = λ κs a z e p. let given : NotificationGiven = notificationGiven κs a in
+          notices (given .device) (given .section) z _ (p .number) (λ x g. (p .number ∙ g .number, p .place ∙ g .place));
+      pes-read = λ κs (packet, _) z e p. packets (now packet) (z .answer) _ (ap (λ (r : Reading). r .answer) p) (λ r q g. p ∙ g .reading);
+      pes-data = λ κs (packet, _) z e p. (readOf (now packet) .answer, packets (now packet) _ _ refl (λ r q g. same-part _ _ _ z (g .given) p));
+      fossknut-pes = λ κs (packet, _) z e p. packets (now packet) z _ (p .answer) (λ r q g. given p g);
     }

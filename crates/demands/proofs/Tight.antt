@@ -1,5 +1,6 @@
 -- Each contract gives the result by an equation, so two results are equal to one thing.
 use mathlib.Core.Path.{sym, _∙_}
+use Rattle.wire.proofs.Puts.{puts-once}
 use Rattle.demands.specs.Tight.{Tight}
 
 pub tight : Tight
@@ -14,30 +15,34 @@ tight =
       either = λ κs a z y e d p q. p ∙ sym q;
       first = λ κs a z y e d p q. p ∙ sym q;
       copy = λ κs a z y e d p q. p ∙ sym q;
+      put = λ κs a z y e d p q. puts-once p q;
       crc-32 = λ κs a z y e d p q. p ∙ sym q;
+      table-id = λ κs a z y e d p q. p ∙ sym q;
+      section-syntax-indicator = λ κs a z y e d p q. p ∙ sym q;
+      private-indicator = λ κs a z y e d p q. p ∙ sym q;
       section-length = λ κs a z y e d p q. p .is ∙ sym (q .is);
+      address = λ κs a z y e d p q. p ∙ sym q;
+      payload-scrambling-control = λ κs a z y e d p q. p ∙ sym q;
+      address-scrambling-control = λ κs a z y e d p q. p ∙ sym q;
+      llc-snap-flag = λ κs a z y e d p q. p ∙ sym q;
+      current-next-indicator = λ κs a z y e d p q. p ∙ sym q;
       section-number = λ κs a z y e d p q. p ∙ sym q;
       last-section-number = λ κs a z y e d p q. p ∙ sym q;
-      payload-scrambling-control = λ κs a z y e d p q. p ∙ sym q;
-      llc-snap-flag = λ κs a z y e d p q. p ∙ sym q;
-      address = λ κs a z y e d p q. p ∙ sym q;
-      same-address = λ κs a z y e d p q. p ∙ sym q;
-      offer-length = λ κs a z y e d p q. p ∙ sym q;
+      payload = λ κs a z y e d p q. (p .bytes ∙ sym (q .bytes), p .block ∙ sym (q .block), p .place ∙ sym (q .place));
+      checked = λ κs a z y e d p q. (p .bytes ∙ sym (q .bytes), p .block ∙ sym (q .block), p .place ∙ sym (q .place));
+      crc-field = λ κs a z y e d p q. p .is ∙ sym (q .is);
       header = λ κs a z y e d p q. p ∙ sym q;
-      good-settings = λ κs a z y e d p q. p ∙ sym q;
-      listing-settings = λ κs a z y e d p q. p ∙ sym q;
       fault = λ κs a z y e d p q. p ∙ sym q;
       check = λ κs a z y e d p q. p ∙ sym q;
+      good-settings = λ κs a z y e d p q. p ∙ sym q;
+      same-address = λ κs a z y e d p q. p ∙ sym q;
       receive = λ κs a z y e d p q. (p .step ∙ sym (q .step), p .buffer ∙ sym (q .buffer));
       gap = λ κs a z y e d p q. p ∙ sym q;
       send = λ κs a z y e d p q. (p .sending ∙ sym (q .sending), p .output ∙ sym (q .output));
       send-by-default = λ κs a z y e d p q. (p .sending ∙ sym (q .sending), p .output ∙ sym (q .output));
-      notification-read = λ κs a z y e d p q. (
-        p .number ∙ sym (q .number),
-        p .part .bytes ∙ sym (q .part .bytes),
-        p .part .block ∙ sym (q .part .block),
-        p .part .place ∙ sym (q .part .place),
-      );
+      listing-settings = λ κs a z y e d p q. p ∙ sym q;
+      offer-length = λ κs a z y e d p q. p ∙ sym q;
+      notification-read = λ κs a z y e d p q. (p .number ∙ sym (q .number), (p .part .bytes ∙ sym (q .part .bytes), p .part .block ∙ sym (q .part .block), p .part .place ∙ sym (q .part .place)));
       notice = λ κs a z y e d p q. p ∙ sym q;
       pes-read = λ κs a z y e d p q. p ∙ sym q;
       pes-data = λ κs a z y e d p q. (p .bytes ∙ sym (q .bytes), p .block ∙ sym (q .block), p .place ∙ sym (q .place));
@@ -50,23 +55,13 @@ tight =
       address-of = λ κs a z y e d p q. p ∙ sym q;
       settings-of = λ κs a z y e d p q. p ∙ sym q;
       state-of = λ κs a z y e d p q. p ∙ sym q;
-      put = λ κs a z y e d p q. p ∙ sym q;
+      put-state = λ κs a z y e d p q. p ∙ sym q;
       fossknut-crc-32 = λ κs a z y e d p q. p ∙ sym q;
       fossknut-check = λ κs a z y e d p q. p ∙ sym q;
-      fossknut-receive = λ κs a z y e d p q.
-          (p .answer ∙ sym (q .answer), p .state ∙ sym (q .state), p .buffer ∙ sym (q .buffer), p .unit ∙ sym (q .unit));
+      fossknut-receive = λ κs a z y e d p q. (p .answer ∙ sym (q .answer), rw (p .state, q .state, p .buffer, q .buffer, p .unit, q .unit));
       fossknut-gap = λ κs a z y e d p q. p ∙ sym q;
-      fossknut-send = λ κs a z y e d p q. (p .number ∙ sym (q .number), p .output ∙ sym (q .output), p .length ∙ sym (q .length));
-      fossknut-send-by-default = λ κs a z y e d p q.
-          (p .number ∙ sym (q .number), p .output ∙ sym (q .output), p .length ∙ sym (q .length));
+      fossknut-send = λ κs a z y e d p q. (p .number ∙ sym (q .number), rw (p .output, q .output, p .length, q .length));
+      fossknut-send-by-default = λ κs a z y e d p q. (p .number ∙ sym (q .number), rw (p .output, q .output, p .length, q .length));
       fossknut-notification = λ κs a z y e d p q. (p .number ∙ sym (q .number), p .place ∙ sym (q .place));
-      fossknut-pes = λ κs a z y e d p q. (
-        p .answer ∙ sym (q .answer),
-        p .extended ∙ sym (q .extended),
-        p .rated ∙ sym (q .rated),
-        p .extension ∙ sym (q .extension),
-        p .rate ∙ sym (q .rate),
-        p .start ∙ sym (q .start),
-        p .length ∙ sym (q .length),
-      );
+      fossknut-pes = λ κs a z y e d p q. rw (p .answer, q .answer, p .extended, q .extended, p .rated, q .rated, p .extension, q .extension, p .rate, q .rate, p .start, q .start, p .length, q .length);
     }

@@ -16,6 +16,10 @@ pub record Function : Type 3 where
   pub r : RK lifetimes
   pub Learnt : Contract lifetimes ps r
 
+-- of a contract, with the parameters and the result that it is about
+abbrev pub function : {n : ℕ} (ps : List (PK n)) (r : RK n) → Contract n ps r → Function
+function {n} ps r Learnt = record { lifetimes = n; ps = ps; r = r; Learnt = Learnt }
+
 abbrev pub Args : (f : Function) → Lfts (f .lifetimes) → Type 0
 Args f κs = Dens κs (f .ps)
 

@@ -1,247 +1,191 @@
--- The real contract of each open function, under one name: its lifetimes, parameters, result, and what a caller learns.
-use Rattle.demands.specs.Allowed.{Function}
-use Rattle.wire.proofs.byte_at.Reads as byte-at-reads
-use Rattle.wire.proofs.byte_at.Kinds as byte-at-kinds
-use Rattle.wire.proofs.u16_at.Reads as u16-at-reads
-use Rattle.wire.proofs.u16_at.Kinds as u16-at-kinds
-use Rattle.wire.proofs.u32_at.Reads as u32-at-reads
-use Rattle.wire.proofs.u32_at.Kinds as u32-at-kinds
-use Rattle.wire.proofs.u32_bytes.Reads as u32-bytes-reads
-use Rattle.wire.proofs.u32_bytes.Kinds as u32-bytes-kinds
-use Rattle.wire.proofs.smaller.Reads as smaller-reads
-use Rattle.wire.proofs.smaller.Kinds as smaller-kinds
-use Rattle.wire.proofs.both.Reads as both-reads
-use Rattle.wire.proofs.both.Kinds as both-kinds
-use Rattle.wire.proofs.either.Reads as either-reads
-use Rattle.wire.proofs.either.Kinds as either-kinds
-use Rattle.wire.proofs.first.Reads as first-reads
-use Rattle.wire.proofs.first.Kinds as first-kinds
-use Rattle.wire.proofs.copy.Reads as copy-reads
-use Rattle.wire.proofs.copy.Kinds as copy-kinds
-use Rattle.crc.proofs.crc_32.Reads as crc-32-reads
-use Rattle.crc.proofs.crc_32.Kinds as crc-32-kinds
-use Rattle.section_fields.proofs.section_length.Reads as section-length-reads
-use Rattle.section_fields.proofs.section_length.Kinds as section-length-kinds
-use Rattle.section_fields.proofs.section_number.Reads as section-number-reads
-use Rattle.section_fields.proofs.section_number.Kinds as section-number-kinds
-use Rattle.section_fields.proofs.last_section_number.Reads as last-section-number-reads
-use Rattle.section_fields.proofs.last_section_number.Kinds as last-section-number-kinds
-use Rattle.section_fields.proofs.payload_scrambling_control.Reads as payload-scrambling-control-reads
-use Rattle.section_fields.proofs.payload_scrambling_control.Kinds as payload-scrambling-control-kinds
-use Rattle.section_fields.proofs.llc_snap_flag.Reads as llc-snap-flag-reads
-use Rattle.section_fields.proofs.llc_snap_flag.Kinds as llc-snap-flag-kinds
-use Rattle.section_fields.proofs.address.Reads as address-reads
-use Rattle.section_fields.proofs.address.Kinds as address-kinds
-use Rattle.settings.proofs.same_address.Reads as same-address-reads
-use Rattle.settings.proofs.same_address.Kinds as same-address-kinds
-use Rattle.recording.proofs.offer_length.Reads as offer-length-reads
-use Rattle.recording.proofs.offer_length.Kinds as offer-length-kinds
-use Rattle.section_header.proofs.header.Reads as header-reads
-use Rattle.section_header.proofs.header.Kinds as header-kinds
-use Rattle.settings.proofs.good_settings.Reads as good-settings-reads
-use Rattle.settings.proofs.good_settings.Kinds as good-settings-kinds
-use Rattle.recording.proofs.listing_settings.Reads as listing-settings-reads
-use Rattle.recording.proofs.listing_settings.Kinds as listing-settings-kinds
-use Rattle.section_check.proofs.fault.Reads as fault-reads
-use Rattle.section_check.proofs.fault.Kinds as fault-kinds
-use Rattle.section_check.proofs.check.Reads as check-reads
-use Rattle.section_check.proofs.check.Kinds as check-kinds
-use Rattle.receiver.proofs.receive.Reads as receive-reads
-use Rattle.receiver.proofs.receive.Kinds as receive-kinds
-use Rattle.receiver.proofs.gap.Reads as gap-reads
-use Rattle.receiver.proofs.gap.Kinds as gap-kinds
-use Rattle.sender.proofs.send.Reads as send-reads
-use Rattle.sender.proofs.send.Kinds as send-kinds
-use Rattle.sender.proofs.send_by_default.Reads as send-by-default-reads
-use Rattle.sender.proofs.send_by_default.Kinds as send-by-default-kinds
-use Rattle.notification.proofs.read.Reads as notification-read-reads
-use Rattle.notification.proofs.read.Kinds as notification-read-kinds
-use Rattle.notification.proofs.notice.Reads as notice-reads
-use Rattle.notification.proofs.notice.Kinds as notice-kinds
-use Rattle.pes.proofs.read.Reads as pes-read-reads
-use Rattle.pes.proofs.read.Kinds as pes-read-kinds
-use Rattle.pes.proofs.data.Reads as pes-data-reads
-use Rattle.pes.proofs.data.Kinds as pes-data-kinds
-use Rattle.answer_numbers.proofs.number_of.Reads as number-of-reads
-use Rattle.answer_numbers.proofs.number_of.Kinds as number-of-kinds
-use Rattle.answer_numbers.proofs.length_of.Reads as length-of-reads
-use Rattle.answer_numbers.proofs.length_of.Kinds as length-of-kinds
-use Rattle.answer_numbers.proofs.sending_number.Reads as sending-number-reads
-use Rattle.answer_numbers.proofs.sending_number.Kinds as sending-number-kinds
-use Rattle.answer_numbers.proofs.sending_length.Reads as sending-length-reads
-use Rattle.answer_numbers.proofs.sending_length.Kinds as sending-length-kinds
-use Rattle.notification_numbers.proofs.notice_number.Reads as notice-number-reads
-use Rattle.notification_numbers.proofs.notice_number.Kinds as notice-number-kinds
-use Rattle.notification_numbers.proofs.notice_place.Reads as notice-place-reads
-use Rattle.notification_numbers.proofs.notice_place.Kinds as notice-place-kinds
-use Rattle.caller_numbers.proofs.address_of.Reads as address-of-reads
-use Rattle.caller_numbers.proofs.address_of.Kinds as address-of-kinds
-use Rattle.caller_numbers.proofs.settings_of.Reads as settings-of-reads
-use Rattle.caller_numbers.proofs.settings_of.Kinds as settings-of-kinds
-use Rattle.caller_numbers.proofs.state_of.Reads as state-of-reads
-use Rattle.caller_numbers.proofs.state_of.Kinds as state-of-kinds
-use Rattle.caller_numbers.proofs.put.Reads as put-reads
-use Rattle.caller_numbers.proofs.put.Kinds as put-kinds
-use Rattle.fossknut.proofs.fossknut_crc_32.Reads as fossknut-crc-32-reads
-use Rattle.fossknut.proofs.fossknut_crc_32.Kinds as fossknut-crc-32-kinds
-use Rattle.fossknut.proofs.fossknut_check.Reads as fossknut-check-reads
-use Rattle.fossknut.proofs.fossknut_check.Kinds as fossknut-check-kinds
-use Rattle.fossknut.proofs.fossknut_receive.Reads as fossknut-receive-reads
-use Rattle.fossknut.proofs.fossknut_receive.Kinds as fossknut-receive-kinds
-use Rattle.fossknut.proofs.fossknut_gap.Reads as fossknut-gap-reads
-use Rattle.fossknut.proofs.fossknut_gap.Kinds as fossknut-gap-kinds
-use Rattle.fossknut.proofs.fossknut_send.Reads as fossknut-send-reads
-use Rattle.fossknut.proofs.fossknut_send.Kinds as fossknut-send-kinds
-use Rattle.fossknut.proofs.fossknut_send_by_default.Reads as fossknut-send-by-default-reads
-use Rattle.fossknut.proofs.fossknut_send_by_default.Kinds as fossknut-send-by-default-kinds
-use Rattle.fossknut.proofs.fossknut_notification.Reads as fossknut-notification-reads
-use Rattle.fossknut.proofs.fossknut_notification.Kinds as fossknut-notification-kinds
-use Rattle.fossknut.proofs.fossknut_pes.Reads as fossknut-pes-reads
-use Rattle.fossknut.proofs.fossknut_pes.Kinds as fossknut-pes-kinds
+-- The real contract of each open function, under one name: its parameters, its result, and what a caller learns.
+use Rattle.demands.specs.Allowed.{Function, function}
+use Rattle.wire.proofs as wire
+use Rattle.crc.proofs as crc
+use Rattle.section_fields.proofs as section_fields
+use Rattle.section_header.proofs as section_header
+use Rattle.section_check.proofs as section_check
+use Rattle.settings.proofs as settings
+use Rattle.receiver.proofs as receiver
+use Rattle.sender.proofs as sender
+use Rattle.recording.proofs as recording
+use Rattle.notification.proofs as notification
+use Rattle.pes.proofs as pes
+use Rattle.answer_numbers.proofs as answer_numbers
+use Rattle.notification_numbers.proofs as notification_numbers
+use Rattle.caller_numbers.proofs as caller_numbers
+use Rattle.fossknut.proofs as fossknut
 
 abbrev pub byte-at : Function
-byte-at = record { lifetimes = 1; ps = byte-at-kinds.ps; r = byte-at-kinds.r; Learnt = byte-at-reads.Learnt }
+byte-at = function wire.byte_at.Kinds.ps wire.byte_at.Kinds.r wire.byte_at.Reads.Learnt
 
 abbrev pub u16-at : Function
-u16-at = record { lifetimes = 1; ps = u16-at-kinds.ps; r = u16-at-kinds.r; Learnt = u16-at-reads.Learnt }
+u16-at = function wire.u16_at.Kinds.ps wire.u16_at.Kinds.r wire.u16_at.Reads.Learnt
 
 abbrev pub u32-at : Function
-u32-at = record { lifetimes = 1; ps = u32-at-kinds.ps; r = u32-at-kinds.r; Learnt = u32-at-reads.Learnt }
+u32-at = function wire.u32_at.Kinds.ps wire.u32_at.Kinds.r wire.u32_at.Reads.Learnt
 
 abbrev pub u32-bytes : Function
-u32-bytes = record { lifetimes = 0; ps = u32-bytes-kinds.ps; r = u32-bytes-kinds.r; Learnt = u32-bytes-reads.Learnt }
+u32-bytes = function wire.u32_bytes.Kinds.ps wire.u32_bytes.Kinds.r wire.u32_bytes.Reads.Learnt
 
 abbrev pub smaller : Function
-smaller = record { lifetimes = 0; ps = smaller-kinds.ps; r = smaller-kinds.r; Learnt = smaller-reads.Learnt }
-
-abbrev pub both : Function
-both = record { lifetimes = 0; ps = both-kinds.ps; r = both-kinds.r; Learnt = both-reads.Learnt }
-
-abbrev pub either : Function
-either = record { lifetimes = 0; ps = either-kinds.ps; r = either-kinds.r; Learnt = either-reads.Learnt }
-
-abbrev pub first : Function
-first = record { lifetimes = 0; ps = first-kinds.ps; r = first-kinds.r; Learnt = first-reads.Learnt }
+smaller = function wire.smaller.Kinds.ps wire.smaller.Kinds.r wire.smaller.Reads.Learnt
 
 abbrev pub copy : Function
-copy = record { lifetimes = 2; ps = copy-kinds.ps; r = copy-kinds.r; Learnt = copy-reads.Learnt }
-
-abbrev pub crc-32 : Function
-crc-32 = record { lifetimes = 1; ps = crc-32-kinds.ps; r = crc-32-kinds.r; Learnt = crc-32-reads.Learnt }
-
-abbrev pub section-length : Function
-section-length = record { lifetimes = 1; ps = section-length-kinds.ps; r = section-length-kinds.r; Learnt = section-length-reads.Learnt }
-
-abbrev pub section-number : Function
-section-number = record { lifetimes = 1; ps = section-number-kinds.ps; r = section-number-kinds.r; Learnt = section-number-reads.Learnt }
-
-abbrev pub last-section-number : Function
-last-section-number = record { lifetimes = 1; ps = last-section-number-kinds.ps; r = last-section-number-kinds.r; Learnt = last-section-number-reads.Learnt }
-
-abbrev pub payload-scrambling-control : Function
-payload-scrambling-control = record { lifetimes = 1; ps = payload-scrambling-control-kinds.ps; r = payload-scrambling-control-kinds.r; Learnt = payload-scrambling-control-reads.Learnt }
-
-abbrev pub llc-snap-flag : Function
-llc-snap-flag = record { lifetimes = 1; ps = llc-snap-flag-kinds.ps; r = llc-snap-flag-kinds.r; Learnt = llc-snap-flag-reads.Learnt }
-
-abbrev pub address : Function
-address = record { lifetimes = 1; ps = address-kinds.ps; r = address-kinds.r; Learnt = address-reads.Learnt }
-
-abbrev pub same-address : Function
-same-address = record { lifetimes = 0; ps = same-address-kinds.ps; r = same-address-kinds.r; Learnt = same-address-reads.Learnt }
-
-abbrev pub offer-length : Function
-offer-length = record { lifetimes = 1; ps = offer-length-kinds.ps; r = offer-length-kinds.r; Learnt = offer-length-reads.Learnt }
-
-abbrev pub header : Function
-header = record { lifetimes = 0; ps = header-kinds.ps; r = header-kinds.r; Learnt = header-reads.Learnt }
-
-abbrev pub good-settings : Function
-good-settings = record { lifetimes = 0; ps = good-settings-kinds.ps; r = good-settings-kinds.r; Learnt = good-settings-reads.Learnt }
-
-abbrev pub listing-settings : Function
-listing-settings = record { lifetimes = 0; ps = listing-settings-kinds.ps; r = listing-settings-kinds.r; Learnt = listing-settings-reads.Learnt }
-
-abbrev pub fault : Function
-fault = record { lifetimes = 1; ps = fault-kinds.ps; r = fault-kinds.r; Learnt = fault-reads.Learnt }
-
-abbrev pub check : Function
-check = record { lifetimes = 1; ps = check-kinds.ps; r = check-kinds.r; Learnt = check-reads.Learnt }
-
-abbrev pub receive : Function
-receive = record { lifetimes = 2; ps = receive-kinds.ps; r = receive-kinds.r; Learnt = receive-reads.Learnt }
-
-abbrev pub gap : Function
-gap = record { lifetimes = 0; ps = gap-kinds.ps; r = gap-kinds.r; Learnt = gap-reads.Learnt }
-
-abbrev pub send : Function
-send = record { lifetimes = 2; ps = send-kinds.ps; r = send-kinds.r; Learnt = send-reads.Learnt }
-
-abbrev pub send-by-default : Function
-send-by-default = record { lifetimes = 2; ps = send-by-default-kinds.ps; r = send-by-default-kinds.r; Learnt = send-by-default-reads.Learnt }
-
-abbrev pub notification-read : Function
-notification-read = record { lifetimes = 2; ps = notification-read-kinds.ps; r = notification-read-kinds.r; Learnt = notification-read-reads.Learnt }
-
-abbrev pub notice : Function
-notice = record { lifetimes = 1; ps = notice-kinds.ps; r = notice-kinds.r; Learnt = notice-reads.Learnt }
-
-abbrev pub pes-read : Function
-pes-read = record { lifetimes = 1; ps = pes-read-kinds.ps; r = pes-read-kinds.r; Learnt = pes-read-reads.Learnt }
-
-abbrev pub pes-data : Function
-pes-data = record { lifetimes = 1; ps = pes-data-kinds.ps; r = pes-data-kinds.r; Learnt = pes-data-reads.Learnt }
-
-abbrev pub number-of : Function
-number-of = record { lifetimes = 0; ps = number-of-kinds.ps; r = number-of-kinds.r; Learnt = number-of-reads.Learnt }
-
-abbrev pub length-of : Function
-length-of = record { lifetimes = 0; ps = length-of-kinds.ps; r = length-of-kinds.r; Learnt = length-of-reads.Learnt }
-
-abbrev pub sending-number : Function
-sending-number = record { lifetimes = 0; ps = sending-number-kinds.ps; r = sending-number-kinds.r; Learnt = sending-number-reads.Learnt }
-
-abbrev pub sending-length : Function
-sending-length = record { lifetimes = 0; ps = sending-length-kinds.ps; r = sending-length-kinds.r; Learnt = sending-length-reads.Learnt }
-
-abbrev pub notice-number : Function
-notice-number = record { lifetimes = 0; ps = notice-number-kinds.ps; r = notice-number-kinds.r; Learnt = notice-number-reads.Learnt }
-
-abbrev pub notice-place : Function
-notice-place = record { lifetimes = 0; ps = notice-place-kinds.ps; r = notice-place-kinds.r; Learnt = notice-place-reads.Learnt }
-
-abbrev pub address-of : Function
-address-of = record { lifetimes = 0; ps = address-of-kinds.ps; r = address-of-kinds.r; Learnt = address-of-reads.Learnt }
-
-abbrev pub settings-of : Function
-settings-of = record { lifetimes = 0; ps = settings-of-kinds.ps; r = settings-of-kinds.r; Learnt = settings-of-reads.Learnt }
-
-abbrev pub state-of : Function
-state-of = record { lifetimes = 0; ps = state-of-kinds.ps; r = state-of-kinds.r; Learnt = state-of-reads.Learnt }
+copy = function wire.copy.Kinds.ps wire.copy.Kinds.r wire.copy.Reads.Learnt
 
 abbrev pub put : Function
-put = record { lifetimes = 5; ps = put-kinds.ps; r = put-kinds.r; Learnt = put-reads.Learnt }
+put = function wire.put.Kinds.ps wire.put.Kinds.r wire.put.Reads.Learnt
+
+abbrev pub both : Function
+both = function wire.both.Kinds.ps wire.both.Kinds.r wire.both.Reads.Learnt
+
+abbrev pub either : Function
+either = function wire.either.Kinds.ps wire.either.Kinds.r wire.either.Reads.Learnt
+
+abbrev pub first : Function
+first = function wire.first.Kinds.ps wire.first.Kinds.r wire.first.Reads.Learnt
+
+abbrev pub crc-32 : Function
+crc-32 = function crc.crc_32.Kinds.ps crc.crc_32.Kinds.r crc.crc_32.Reads.Learnt
+
+abbrev pub table-id : Function
+table-id = function section_fields.table_id.Kinds.ps section_fields.table_id.Kinds.r section_fields.table_id.Reads.Learnt
+
+abbrev pub section-syntax-indicator : Function
+section-syntax-indicator = function section_fields.section_syntax_indicator.Kinds.ps section_fields.section_syntax_indicator.Kinds.r section_fields.section_syntax_indicator.Reads.Learnt
+
+abbrev pub private-indicator : Function
+private-indicator = function section_fields.private_indicator.Kinds.ps section_fields.private_indicator.Kinds.r section_fields.private_indicator.Reads.Learnt
+
+abbrev pub section-length : Function
+section-length = function section_fields.section_length.Kinds.ps section_fields.section_length.Kinds.r section_fields.section_length.Reads.Learnt
+
+abbrev pub address : Function
+address = function section_fields.address.Kinds.ps section_fields.address.Kinds.r section_fields.address.Reads.Learnt
+
+abbrev pub payload-scrambling-control : Function
+payload-scrambling-control = function section_fields.payload_scrambling_control.Kinds.ps section_fields.payload_scrambling_control.Kinds.r section_fields.payload_scrambling_control.Reads.Learnt
+
+abbrev pub address-scrambling-control : Function
+address-scrambling-control = function section_fields.address_scrambling_control.Kinds.ps section_fields.address_scrambling_control.Kinds.r section_fields.address_scrambling_control.Reads.Learnt
+
+abbrev pub llc-snap-flag : Function
+llc-snap-flag = function section_fields.llc_snap_flag.Kinds.ps section_fields.llc_snap_flag.Kinds.r section_fields.llc_snap_flag.Reads.Learnt
+
+abbrev pub current-next-indicator : Function
+current-next-indicator = function section_fields.current_next_indicator.Kinds.ps section_fields.current_next_indicator.Kinds.r section_fields.current_next_indicator.Reads.Learnt
+
+abbrev pub section-number : Function
+section-number = function section_fields.section_number.Kinds.ps section_fields.section_number.Kinds.r section_fields.section_number.Reads.Learnt
+
+abbrev pub last-section-number : Function
+last-section-number = function section_fields.last_section_number.Kinds.ps section_fields.last_section_number.Kinds.r section_fields.last_section_number.Reads.Learnt
+
+abbrev pub payload : Function
+payload = function section_fields.payload.Kinds.ps section_fields.payload.Kinds.r section_fields.payload.Reads.Learnt
+
+abbrev pub checked : Function
+checked = function section_fields.checked.Kinds.ps section_fields.checked.Kinds.r section_fields.checked.Reads.Learnt
+
+abbrev pub crc-field : Function
+crc-field = function section_fields.crc_field.Kinds.ps section_fields.crc_field.Kinds.r section_fields.crc_field.Reads.Learnt
+
+abbrev pub header : Function
+header = function section_header.header.Kinds.ps section_header.header.Kinds.r section_header.header.Reads.Learnt
+
+abbrev pub fault : Function
+fault = function section_check.fault.Kinds.ps section_check.fault.Kinds.r section_check.fault.Reads.Learnt
+
+abbrev pub check : Function
+check = function section_check.check.Kinds.ps section_check.check.Kinds.r section_check.check.Reads.Learnt
+
+abbrev pub good-settings : Function
+good-settings = function settings.good_settings.Kinds.ps settings.good_settings.Kinds.r settings.good_settings.Reads.Learnt
+
+abbrev pub same-address : Function
+same-address = function settings.same_address.Kinds.ps settings.same_address.Kinds.r settings.same_address.Reads.Learnt
+
+abbrev pub receive : Function
+receive = function receiver.receive.Kinds.ps receiver.receive.Kinds.r receiver.receive.Reads.Learnt
+
+abbrev pub gap : Function
+gap = function receiver.gap.Kinds.ps receiver.gap.Kinds.r receiver.gap.Reads.Learnt
+
+abbrev pub send : Function
+send = function sender.send.Kinds.ps sender.send.Kinds.r sender.send.Reads.Learnt
+
+abbrev pub send-by-default : Function
+send-by-default = function sender.send_by_default.Kinds.ps sender.send_by_default.Kinds.r sender.send_by_default.Reads.Learnt
+
+abbrev pub listing-settings : Function
+listing-settings = function recording.listing_settings.Kinds.ps recording.listing_settings.Kinds.r recording.listing_settings.Reads.Learnt
+
+abbrev pub offer-length : Function
+offer-length = function recording.offer_length.Kinds.ps recording.offer_length.Kinds.r recording.offer_length.Reads.Learnt
+
+abbrev pub notification-read : Function
+notification-read = function notification.read.Kinds.ps notification.read.Kinds.r notification.read.Reads.Learnt
+
+abbrev pub notice : Function
+notice = function notification.notice.Kinds.ps notification.notice.Kinds.r notification.notice.Reads.Learnt
+
+abbrev pub pes-read : Function
+pes-read = function pes.read.Kinds.ps pes.read.Kinds.r pes.read.Reads.Learnt
+
+abbrev pub pes-data : Function
+pes-data = function pes.data.Kinds.ps pes.data.Kinds.r pes.data.Reads.Learnt
+
+abbrev pub number-of : Function
+number-of = function answer_numbers.number_of.Kinds.ps answer_numbers.number_of.Kinds.r answer_numbers.number_of.Reads.Learnt
+
+abbrev pub length-of : Function
+length-of = function answer_numbers.length_of.Kinds.ps answer_numbers.length_of.Kinds.r answer_numbers.length_of.Reads.Learnt
+
+abbrev pub sending-number : Function
+sending-number = function answer_numbers.sending_number.Kinds.ps answer_numbers.sending_number.Kinds.r answer_numbers.sending_number.Reads.Learnt
+
+abbrev pub sending-length : Function
+sending-length = function answer_numbers.sending_length.Kinds.ps answer_numbers.sending_length.Kinds.r answer_numbers.sending_length.Reads.Learnt
+
+abbrev pub notice-number : Function
+notice-number = function notification_numbers.notice_number.Kinds.ps notification_numbers.notice_number.Kinds.r notification_numbers.notice_number.Reads.Learnt
+
+abbrev pub notice-place : Function
+notice-place = function notification_numbers.notice_place.Kinds.ps notification_numbers.notice_place.Kinds.r notification_numbers.notice_place.Reads.Learnt
+
+abbrev pub address-of : Function
+address-of = function caller_numbers.address_of.Kinds.ps caller_numbers.address_of.Kinds.r caller_numbers.address_of.Reads.Learnt
+
+abbrev pub settings-of : Function
+settings-of = function caller_numbers.settings_of.Kinds.ps caller_numbers.settings_of.Kinds.r caller_numbers.settings_of.Reads.Learnt
+
+abbrev pub state-of : Function
+state-of = function caller_numbers.state_of.Kinds.ps caller_numbers.state_of.Kinds.r caller_numbers.state_of.Reads.Learnt
+
+abbrev pub put-state : Function
+put-state = function caller_numbers.put.Kinds.ps caller_numbers.put.Kinds.r caller_numbers.put.Reads.Learnt
 
 abbrev pub fossknut-crc-32 : Function
-fossknut-crc-32 = record { lifetimes = 1; ps = fossknut-crc-32-kinds.ps; r = fossknut-crc-32-kinds.r; Learnt = fossknut-crc-32-reads.Learnt }
+fossknut-crc-32 = function fossknut.fossknut_crc_32.Kinds.ps fossknut.fossknut_crc_32.Kinds.r fossknut.fossknut_crc_32.Reads.Learnt
 
 abbrev pub fossknut-check : Function
-fossknut-check = record { lifetimes = 1; ps = fossknut-check-kinds.ps; r = fossknut-check-kinds.r; Learnt = fossknut-check-reads.Learnt }
+fossknut-check = function fossknut.fossknut_check.Kinds.ps fossknut.fossknut_check.Kinds.r fossknut.fossknut_check.Reads.Learnt
 
 abbrev pub fossknut-receive : Function
-fossknut-receive = record { lifetimes = 8; ps = fossknut-receive-kinds.ps; r = fossknut-receive-kinds.r; Learnt = fossknut-receive-reads.Learnt }
+fossknut-receive = function fossknut.fossknut_receive.Kinds.ps fossknut.fossknut_receive.Kinds.r fossknut.fossknut_receive.Reads.Learnt
 
 abbrev pub fossknut-gap : Function
-fossknut-gap = record { lifetimes = 5; ps = fossknut-gap-kinds.ps; r = fossknut-gap-kinds.r; Learnt = fossknut-gap-reads.Learnt }
+fossknut-gap = function fossknut.fossknut_gap.Kinds.ps fossknut.fossknut_gap.Kinds.r fossknut.fossknut_gap.Reads.Learnt
 
 abbrev pub fossknut-send : Function
-fossknut-send = record { lifetimes = 3; ps = fossknut-send-kinds.ps; r = fossknut-send-kinds.r; Learnt = fossknut-send-reads.Learnt }
+fossknut-send = function fossknut.fossknut_send.Kinds.ps fossknut.fossknut_send.Kinds.r fossknut.fossknut_send.Reads.Learnt
 
 abbrev pub fossknut-send-by-default : Function
-fossknut-send-by-default = record { lifetimes = 3; ps = fossknut-send-by-default-kinds.ps; r = fossknut-send-by-default-kinds.r; Learnt = fossknut-send-by-default-reads.Learnt }
+fossknut-send-by-default = function fossknut.fossknut_send_by_default.Kinds.ps fossknut.fossknut_send_by_default.Kinds.r fossknut.fossknut_send_by_default.Reads.Learnt
 
 abbrev pub fossknut-notification : Function
-fossknut-notification = record { lifetimes = 2; ps = fossknut-notification-kinds.ps; r = fossknut-notification-kinds.r; Learnt = fossknut-notification-reads.Learnt }
+fossknut-notification = function fossknut.fossknut_notification.Kinds.ps fossknut.fossknut_notification.Kinds.r fossknut.fossknut_notification.Reads.Learnt
 
 abbrev pub fossknut-pes : Function
-fossknut-pes = record { lifetimes = 7; ps = fossknut-pes-kinds.ps; r = fossknut-pes-kinds.r; Learnt = fossknut-pes-reads.Learnt }
+fossknut-pes = function fossknut.fossknut_pes.Kinds.ps fossknut.fossknut_pes.Kinds.r fossknut.fossknut_pes.Reads.Learnt

@@ -15,7 +15,7 @@ use Rattle.rules.specs.Meaning.{checkRows, receiverRows, senderRows}
 use Rattle.rules.specs.Send.{sendingLength, sendingNumber}
 use Rattle.rules.specs.Step.{lengthOf, numberOf}
 use Rattle.caller_numbers.specs.Numbers.{numbers, numbersOf, stateOf}
-use Rattle.demands.specs.Abroad.{defaultOutput, defaultSettings, defaultUnit, gappedState, lengthByDefault, receiveBuffer, receivedBuffer, receivedLength, receivedState, receiveSection, receiveSettings, receiveState, sendOutput, sendSettings, sendSize, sendUnit, sentByDefault, sentLength, sentOutput}
+use Rattle.demands.specs.Abroad.{defaultGave, defaultGiven, gapGave, receiveGave, receiveGiven, sendGave, sendGiven, sizeGiven}
 use Rattle.demands.specs.Allowed.{Allowed}
 use Rattle.demands.specs.Contracts as contracts
 
@@ -35,33 +35,34 @@ pub record Sends (c : Settings) (size : ℕ) (u out : List ℕ) (n total : ℕ) 
 
 pub record Demand1 : Type 0 where
   pub check : Allowed contracts.check
-      (λ κs a z e. Numbered z (checkRows (now (a .0))))
-  -- settings, state, section, buffer
+      (λ κs (s, _) z e. Numbered z (checkRows (now s)))
   pub receive : Allowed contracts.receive
-      (λ κs a z e. Steps (a .0) (a .1 .0) (now (a .1 .1 .0)) (now (a .1 .1 .1 .0))
-      (numberOf (z .answer)) (lengthOf (z .answer)) (z .state) (now (e .1 .1 .1 .0)))
+      (λ κs (settings, (state, (s, (buffer, _)))) z (_, (_, (_, (after, _)))).
+      Steps settings state (now s) (now buffer) (numberOf (z .answer)) (lengthOf (z .answer)) (z .state) (now after))
   pub named : Allowed contracts.receive
       (λ κs a z e. NamedByNumber (z .answer))
   -- a gap notice makes any state idle and is never refused
   pub gap : Allowed contracts.gap
       (λ κs a z e. z ≡ Idle)
-  -- settings, flag, piece size, unit, output; where no piece size is given, it is 4,080
+  -- where no piece size is given, it is 4,080
   pub send : Allowed contracts.send
-      (λ κs a z e. Sends (a .0) (a .1 .1 .0) (now (a .1 .1 .1 .0)) (now (a .1 .1 .1 .1 .0))
-      (sendingNumber z) (sendingLength z) (now (e .1 .1 .1 .1 .0)))
+      (λ κs (settings, (flag, (size, (unit, (out, _))))) z (_, (_, (_, (_, (after, _))))).
+      Sends settings size (now unit) (now out) (sendingNumber z) (sendingLength z) (now after))
   pub send-by-default : Allowed contracts.send-by-default
-      (λ κs a z e. Sends (a .0) 4080 (now (a .1 .1 .0)) (now (a .1 .1 .1 .0))
-      (sendingNumber z) (sendingLength z) (now (e .1 .1 .1 .0)))
+      (λ κs (settings, (flag, (unit, (out, _)))) z (_, (_, (_, (after, _)))).
+      Sends settings 4080 (now unit) (now out) (sendingNumber z) (sendingLength z) (now after))
   -- the exported functions: the state is given and handed back as numbers
   pub fossknut-check : Allowed contracts.fossknut-check
-      (λ κs a z e. Numbered z (checkRows (now (a .0))))
+      (λ κs (s, _) z e. Numbered z (checkRows (now s)))
   pub fossknut-receive : Allowed contracts.fossknut-receive
-      (λ κs a z e. (τ : State) × (receivedState κs e ≡ numbersOf τ)
-      × Steps (receiveSettings κs a) (stateOf (receiveState κs a)) (receiveSection κs a) (receiveBuffer κs a)
-      z (receivedLength κs e) τ (receivedBuffer κs e))
+      (λ κs a z e. let given = receiveGiven κs a in let gave = receiveGave κs e in
+      (τ : State) × (gave .state ≡ numbersOf τ)
+      × Steps (given .settings) (stateOf (given .state)) (given .section) (given .buffer) z (gave .length) τ (gave .buffer))
   pub fossknut-gap : Allowed contracts.fossknut-gap
-      (λ κs a z e. gappedState κs e ≡ numbers 0 0 0 0 0)
+      (λ κs a z e. gapGave κs e ≡ numbers 0 0 0 0 0)
   pub fossknut-send : Allowed contracts.fossknut-send
-      (λ κs a z e. Sends (sendSettings κs a) (sendSize κs a) (sendUnit κs a) (sendOutput κs a) z (sentLength κs e) (sentOutput κs e))
+      (λ κs a z e. let given = sendGiven κs a in let gave = sendGave κs e in
+      Sends (given .settings) (sizeGiven κs a) (given .unit) (given .output) z (gave .length) (gave .output))
   pub fossknut-send-by-default : Allowed contracts.fossknut-send-by-default
-      (λ κs a z e. Sends (defaultSettings κs a) 4080 (defaultUnit κs a) (defaultOutput κs a) z (lengthByDefault κs e) (sentByDefault κs e))
+      (λ κs a z e. let given = defaultGiven κs a in let gave = defaultGave κs e in
+      Sends (given .settings) 4080 (given .unit) (given .output) z (gave .length) (gave .output))

@@ -15,7 +15,7 @@ use Rattle.rules.specs.Recording.{offers}
 use Rattle.rules.specs.Row.{datagram, fresh, Handed, Held, nothing, section}
 use Rattle.rules.specs.Send.{sendingLength, sendingNumber}
 use Rattle.rules.specs.Sound.{Sound, table3}
-use Rattle.demands.specs.Abroad.{defaultFlag, defaultOutput, defaultSettings, defaultUnit, lengthByDefault, sendFlag, sendOutput, sendSettings, sendSize, sendUnit, sentByDefault, sentLength, sentOutput}
+use Rattle.demands.specs.Abroad.{defaultGave, defaultGiven, sendGave, sendGiven, sizeGiven}
 use Rattle.demands.specs.Allowed.{Allowed}
 use Rattle.demands.specs.Contracts as contracts
 use Rattle.demands.specs.Demand3.{GivenRow}
@@ -35,20 +35,20 @@ pub record SentRight (c : Settings) (flag : Bool) (size : ℕ) (u out : List ℕ
 pub record Demand2 : Type 0 where
   -- none of 12 to 19 applies exactly to what table 3 writes
   pub check : Allowed contracts.check
-      (λ κs a z e. Bytes (now (a .0)) → (z ≡ 0) ↔ Sound (now (a .0)))
-  -- settings, flag, piece size, unit, output; where no piece size is given, it is 4,080
+      (λ κs (s, _) z e. Bytes (now s) → (z ≡ 0) ↔ Sound (now s))
+  -- where no piece size is given, it is 4,080
   pub send : Allowed contracts.send
-      (λ κs a z e. sendingNumber z ≡ 0
-      → SentRight (a .0) (a .1 .0) (a .1 .1 .0) (now (a .1 .1 .1 .0)) (now (a .1 .1 .1 .1 .0)) (sendingLength z) (now (e .1 .1 .1 .1 .0)))
+      (λ κs (settings, (flag, (size, (unit, (out, _))))) z (_, (_, (_, (_, (after, _))))). sendingNumber z ≡ 0
+      → SentRight settings flag size (now unit) (now out) (sendingLength z) (now after))
   pub send-by-default : Allowed contracts.send-by-default
-      (λ κs a z e. sendingNumber z ≡ 0
-      → SentRight (a .0) (a .1 .0) 4080 (now (a .1 .1 .0)) (now (a .1 .1 .1 .0)) (sendingLength z) (now (e .1 .1 .1 .0)))
+      (λ κs (settings, (flag, (unit, (out, _)))) z (_, (_, (_, (after, _)))). sendingNumber z ≡ 0
+      → SentRight settings flag 4080 (now unit) (now out) (sendingLength z) (now after))
   -- the exported functions
   pub fossknut-check : Allowed contracts.fossknut-check
-      (λ κs a z e. Bytes (now (a .0)) → (z ≡ 0) ↔ Sound (now (a .0)))
+      (λ κs (s, _) z e. Bytes (now s) → (z ≡ 0) ↔ Sound (now s))
   pub fossknut-send : Allowed contracts.fossknut-send
-      (λ κs a z e. z ≡ 0
-      → SentRight (sendSettings κs a) (sendFlag κs a) (sendSize κs a) (sendUnit κs a) (sendOutput κs a) (sentLength κs e) (sentOutput κs e))
+      (λ κs a z e. let given = sendGiven κs a in let gave = sendGave κs e in z ≡ 0
+      → SentRight (given .settings) (given .flag) (sizeGiven κs a) (given .unit) (given .output) (gave .length) (gave .output))
   pub fossknut-send-by-default : Allowed contracts.fossknut-send-by-default
-      (λ κs a z e. z ≡ 0
-      → SentRight (defaultSettings κs a) (defaultFlag κs a) 4080 (defaultUnit κs a) (defaultOutput κs a) (lengthByDefault κs e) (sentByDefault κs e))
+      (λ κs a z e. let given = defaultGiven κs a in let gave = defaultGave κs e in z ≡ 0
+      → SentRight (given .settings) (given .flag) 4080 (given .unit) (given .output) (gave .length) (gave .output))

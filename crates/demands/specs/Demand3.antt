@@ -9,10 +9,11 @@ use contract.Lifetimes.{Lfts}
 use denote.Ref.{now}
 use Rattle.wire.specs.Choice.{pick}
 use Rattle.rules.specs.declared.Settings.{Settings}
+use Rattle.rules.specs.declared.State.{State}
 use Rattle.rules.specs.Demand3.{CanBeStruck, HandedRight, OfBytes, Once, OnlyOne}
 use Rattle.rules.specs.Row.{datagram, Event, fresh, gap, Handed, handedBy, Held, nothing, section}
 use Rattle.caller_numbers.specs.Numbers.{stateOf}
-use Rattle.demands.specs.Abroad.{gappedState, gapState, receiveBuffer, receivedBuffer, receivedLength, receivedState, receiveSection, receiveSettings, receiveState}
+use Rattle.demands.specs.Abroad.{gapGave, gapGiven, receiveGave, receiveGiven}
 use Rattle.demands.specs.Allowed.{Args, Exit, Result}
 use Rattle.demands.specs.Contracts as contracts
 
@@ -20,23 +21,39 @@ use Rattle.demands.specs.Contracts as contracts
 unfoldable pub handedAbroad : ℕ → ℕ → List ℕ → Handed
 handedAbroad number n b = pick (eqb number 0) (datagram n (take n b)) nothing
 
+-- what `receive` is given, by name, and the buffer after it
+pub record Received : Type 0 where
+  pub settings : Settings
+  pub state : State
+  pub section : List ℕ
+  pub buffer : List ℕ
+
+abbrev pub receiveArgs : (κs : Lfts 2) → Args contracts.receive κs → Received
+receiveArgs κs (settings, (state, (s, (buffer, _)))) = record { settings = settings; state = state; section = now s; buffer = now buffer }
+
+abbrev pub bufferAfter : (κs : Lfts 2) → Exit contracts.receive κs → List ℕ
+bufferAfter κs (_, (_, (_, (after, _)))) = now after
+
 -- one event given to the code that holds h: what it holds afterwards, and what it hands over
 pub data Given (c : Settings) (h : Held) : Event → Held → Handed → Type 0 where
   a-section : (κs : Lfts 2) (a : Args contracts.receive κs) (z : Result contracts.receive κs) (e : Exit contracts.receive κs)
-      → a .0 ≡ c → a .1 .0 ≡ h .state → now (a .1 .1 .1 .0) ≡ h .buffer → contracts.receive .Learnt κs a z e
-      → Given c h (section (now (a .1 .1 .0))) (record { state = z .state; buffer = now (e .1 .1 .1 .0) }) (handedBy (z .answer) (now (e .1 .1 .1 .0)))
+      → receiveArgs κs a .settings ≡ c → receiveArgs κs a .state ≡ h .state → receiveArgs κs a .buffer ≡ h .buffer
+      → contracts.receive .Learnt κs a z e
+      → Given c h (section (receiveArgs κs a .section)) (record { state = z .state; buffer = bufferAfter κs e })
+      (handedBy (z .answer) (bufferAfter κs e))
   a-gap : (κs : Lfts 0) (a : Args contracts.gap κs) (z : Result contracts.gap κs) (e : Exit contracts.gap κs)
       → a .0 ≡ h .state → contracts.gap .Learnt κs a z e → Given c h gap (record { state = z; buffer = h .buffer }) nothing
   -- by a foreign caller, who has the state as numbers
   a-section-abroad : (κs : Lfts 8) (a : Args contracts.fossknut-receive κs) (z : Result contracts.fossknut-receive κs)
       (e : Exit contracts.fossknut-receive κs)
-      → receiveSettings κs a ≡ c → stateOf (receiveState κs a) ≡ h .state → receiveBuffer κs a ≡ h .buffer
+      → receiveGiven κs a .settings ≡ c → stateOf (receiveGiven κs a .state) ≡ h .state → receiveGiven κs a .buffer ≡ h .buffer
       → contracts.fossknut-receive .Learnt κs a z e
-      → Given c h (section (receiveSection κs a)) (record { state = stateOf (receivedState κs e); buffer = receivedBuffer κs e })
-      (handedAbroad z (receivedLength κs e) (receivedBuffer κs e))
+      → Given c h (section (receiveGiven κs a .section))
+      (record { state = stateOf (receiveGave κs e .state); buffer = receiveGave κs e .buffer })
+      (handedAbroad z (receiveGave κs e .length) (receiveGave κs e .buffer))
   a-gap-abroad : (κs : Lfts 5) (a : Args contracts.fossknut-gap κs) (z : Result contracts.fossknut-gap κs) (e : Exit contracts.fossknut-gap κs)
-      → stateOf (gapState κs a) ≡ h .state → contracts.fossknut-gap .Learnt κs a z e
-      → Given c h gap (record { state = stateOf (gappedState κs e); buffer = h .buffer }) nothing
+      → stateOf (gapGiven κs a) ≡ h .state → contracts.fossknut-gap .Learnt κs a z e
+      → Given c h gap (record { state = stateOf (gapGave κs e); buffer = h .buffer }) nothing
 
 -- a row of events given to the code: what it holds before and after it, and what is handed over at each event
 pub data GivenRow (c : Settings) : Held → List Event → List Handed → Held → Type 0 where
@@ -45,7 +62,7 @@ pub data GivenRow (c : Settings) : Held → List Event → List Handed → Held 
       → Given c h e k d → GivenRow c k r ds l → GivenRow c h (e ∷ r) (d ∷ ds) l
 
 pub record Demand3 : Type 0 where
-  -- behind any row given to the code from a fresh start
+  -- after any row given to the code from a fresh start
   pub each : (c : Settings) (b : List ℕ) (r : List Event) (ds : List Handed) (h : Held) → GivenRow c (fresh b) r ds h
       → (e : Event) (k : Held) (d : Handed) → Given c h e k d → OfBytes (r ++ (e ∷ [])) → HandedRight c b r e d
   pub strikes : (c : Settings) → CanBeStruck c

@@ -6,7 +6,6 @@ use mathlib.Core.Path.{_≡_}
 use mathlib.Core.Logic.{_↔_, _⊎_, _≢_}
 use mathlib.Core.List.{List, []}
 use mathlib.Core.Bool.{cond}
-use contract.Lifetimes.{Lfts}
 use denote.Ref.{now, ptr}
 use lib.ListN.{length}
 use Rattle.wire.specs.Bytes.{Bytes}
@@ -19,8 +18,8 @@ use Rattle.notification_rules.specs.Notice.{noticeNumber}
 use Rattle.pes_rules.specs.declared.Reading.{Reading}
 use Rattle.pes_rules.specs.Meaning.{packetRows}
 use Rattle.pes_rules.specs.Written.{Conforms as CanWrite, dataPartOf, packetOf, readingOf, Values, Written as WrittenPacket, zeros}
-use Rattle.demands.specs.Abroad.{deviceGiven, placeTold, sectionGiven}
-use Rattle.demands.specs.Allowed.{Allowed, Exit}
+use Rattle.demands.specs.Abroad.{notificationGiven, offsetGave, packetGave, PacketNumbers}
+use Rattle.demands.specs.Allowed.{Allowed}
 use Rattle.demands.specs.Contracts as contracts
 
 -- ---- a device, a section and the number that is told; `Told` says that all that is told is what an answer has
@@ -46,16 +45,7 @@ pub record Packets (s : List ℕ) (number : ℕ) (Told : Reading → Part → Ty
   -- "a refusal gives zeros and an empty part"
   pub refused : number ≢ 5 → Told (zeros number) (part 0 [])
 
--- ---- what `fossknut_pes` gives a foreign caller: both flags as 0 or 1, both values, the place and the length of the data
-pub record PacketNumbers : Type 0 where
-  pub answer : ℕ
-  pub extended : ℕ
-  pub rated : ℕ
-  pub extension : ℕ
-  pub rate : ℕ
-  pub start : ℕ
-  pub count : ℕ
-
+-- ---- the same as numbers, as `fossknut_pes` gives it
 abbrev pub packetNumbers : Reading → Part → PacketNumbers
 packetNumbers r p =
     record {
@@ -68,31 +58,21 @@ packetNumbers r p =
       count = length (p .bytes);
     }
 
-abbrev pub numbersGiven : (κs : Lfts 7) → ℕ → Exit contracts.fossknut-pes κs → PacketNumbers
-numbersGiven κs z e =
-    record {
-      answer = z;
-      extended = now (e .1 .0);
-      rated = now (e .1 .1 .0);
-      extension = now (e .1 .1 .1 .0);
-      rate = now (e .1 .1 .1 .1 .0);
-      start = now (e .1 .1 .1 .1 .1 .0);
-      count = now (e .1 .1 .1 .1 .1 .1 .0);
-    }
-
 -- ---- what the contracts of the code allow
 pub record Readers : Type 0 where
   pub notice : Allowed contracts.notice
-      (λ κs a z e. Notices (a .0) (now (a .1 .0)) (noticeNumber z) (λ x. z ≡ x .notice))
+      (λ κs (device, (s, _)) z e. Notices device (now s) (noticeNumber z) (λ x. z ≡ x .notice))
   -- the number is written through `answer`; z is that part of the section, bytes and place
   pub notification-read : Allowed contracts.notification-read
-      (λ κs a z e. Notices (a .0) (now (a .1 .0)) (now (e .1 .1 .0)) (λ x. (now (e .1 .1 .0) ≡ x .number) × Is (a .1 .0 .ptr) (x .given) z))
+      (λ κs (device, (s, _)) z (_, (_, (answer, _))).
+      Notices device (now s) (now answer) (λ x. (now answer ≡ x .number) × Is (s .ptr) (x .given) z))
   pub fossknut-notification : Allowed contracts.fossknut-notification
-      (λ κs a z e. Notices (deviceGiven κs a) (sectionGiven κs a) z (λ x. (z ≡ x .number) × (placeTold κs e ≡ x .given .place)))
+      (λ κs a z e. let given = notificationGiven κs a in
+      Notices (given .device) (given .section) z (λ x. (z ≡ x .number) × (offsetGave κs e ≡ x .given .place)))
   pub pes-read : Allowed contracts.pes-read
-      (λ κs a z e. Packets (now (a .0)) (z .answer) (λ r p. z ≡ r))
+      (λ κs (packet, _) z e. Packets (now packet) (z .answer) (λ r p. z ≡ r))
   -- z is the data part of the packet, bytes and place; the number is not told, and is the rows' own
   pub pes-data : Allowed contracts.pes-data
-      (λ κs a z e. (k : ℕ) × Packets (now (a .0)) k (λ r p. Is (a .0 .ptr) p z))
+      (λ κs (packet, _) z e. (k : ℕ) × Packets (now packet) k (λ r p. Is (packet .ptr) p z))
   pub fossknut-pes : Allowed contracts.fossknut-pes
-      (λ κs a z e. Packets (now (a .0)) z (λ r p. numbersGiven κs z e ≡ packetNumbers r p))
+      (λ κs (packet, _) z e. Packets (now packet) z (λ r p. packetGave κs z e ≡ packetNumbers r p))

@@ -1,102 +1,21 @@
 -- Any two results that the contract of an open function allows are equal, and so are any two contents of a lent buffer.
 -- `Learnt` is the contract itself, not a copy: what a caller learns of the result and of what it lent.
+use Prim.Native.Nat.{ℕ}
 use mathlib.Core.Path.{_≡_}
-use denote.Ref.{now, ptr}
-use Rattle.demands.specs.Abroad.{gappedState, lengthByDefault, placeTold, receivedBuffer, receivedLength, receivedState, sentByDefault, sentLength, sentOutput}
+use mathlib.Core.List.{List}
+use denote.Ref.{now, ptr, RefT}
+use Rattle.demands.specs.Abroad.{defaultGave, gapGave, offsetGave, packetGave, receiveGave, sendGave}
 use Rattle.demands.specs.Allowed.{AnyTwo, Function}
 use Rattle.caller_numbers.specs.Numbers.{numbers}
 use Rattle.demands.specs.Contracts as contracts
 
+-- results z and y are equal
 abbrev pub OneResult : Function → Type 0
 OneResult f = AnyTwo f (λ κs z y e d. z ≡ y)
 
--- what `copy` leaves in the slice that it is lent
-abbrev pub CopyTight : Type 0
-CopyTight =
-    AnyTwo contracts.copy
-    (λ κs z y e d. now (e .1 .0) ≡ now (d .1 .0))
-
--- what `receive` answers, the state after, and what it leaves in the buffer
-abbrev pub ReceiveTight : Type 0
-ReceiveTight =
-    AnyTwo contracts.receive
-    (λ κs z y e d. (z ≡ y) × (now (e .1 .1 .1 .0) ≡ now (d .1 .1 .1 .0)))
-
--- which part of the packet `data` hands out: its bytes, its block and its place
-abbrev pub DataTight : Type 0
-DataTight =
-    AnyTwo contracts.pes-data
-    (λ κs z y e d. (now z ≡ now y) × (ptr z .0 ≡ ptr y .0) × (ptr z .1 ≡ ptr y .1))
-
--- the numbers of a state that a foreign caller is given back, the buffer and the length
-abbrev pub ForeignReceiveTight : Type 0
-ForeignReceiveTight =
-    AnyTwo contracts.fossknut-receive
-    (λ κs z y e d. (z ≡ y)
-    × (receivedState κs e ≡ receivedState κs d)
-    × (receivedBuffer κs e ≡ receivedBuffer κs d)
-    × (receivedLength κs e ≡ receivedLength κs d))
-
--- the numbers of a state that `put` writes, and those that a foreign caller is given back at a gap notice
-abbrev pub PutTight : Type 0
-PutTight =
-    AnyTwo contracts.put
-    (λ κs z y e d. numbers (now (e .1 .0)) (now (e .1 .1 .0)) (now (e .1 .1 .1 .0)) (now (e .1 .1 .1 .1 .0)) (now (e .1 .1 .1 .1 .1 .0)) ≡ numbers (now (d .1 .0)) (now (d .1 .1 .0)) (now (d .1 .1 .1 .0)) (now (d .1 .1 .1 .1 .0)) (now (d .1 .1 .1 .1 .1 .0)))
-
-abbrev pub ForeignGapTight : Type 0
-ForeignGapTight =
-    AnyTwo contracts.fossknut-gap
-    (λ κs z y e d. gappedState κs e ≡ gappedState κs d)
-
--- what `send` answers, and what it leaves in the output; the same where no piece size is given
-abbrev pub SendTight : Type 0
-SendTight =
-    AnyTwo contracts.send
-    (λ κs z y e d. (z ≡ y) × (now (e .1 .1 .1 .1 .0) ≡ now (d .1 .1 .1 .1 .0)))
-
-abbrev pub SendByDefaultTight : Type 0
-SendByDefaultTight =
-    AnyTwo contracts.send-by-default
-    (λ κs z y e d. (z ≡ y) × (now (e .1 .1 .1 .0) ≡ now (d .1 .1 .1 .0)))
-
--- the same for a foreign caller, with the length
-abbrev pub ForeignSendTight : Type 0
-ForeignSendTight =
-    AnyTwo contracts.fossknut-send
-    (λ κs z y e d. (z ≡ y)
-    × (sentOutput κs e ≡ sentOutput κs d)
-    × (sentLength κs e ≡ sentLength κs d))
-
-abbrev pub ForeignSendByDefaultTight : Type 0
-ForeignSendByDefaultTight =
-    AnyTwo contracts.fossknut-send-by-default
-    (λ κs z y e d. (z ≡ y)
-    × (sentByDefault κs e ≡ sentByDefault κs d)
-    × (lengthByDefault κs e ≡ lengthByDefault κs d))
-
--- each number that the PES reader writes for a foreign caller
-abbrev pub ForeignPesTight : Type 0
-ForeignPesTight =
-    AnyTwo contracts.fossknut-pes
-    (λ κs z y e d. (z ≡ y)
-    × (now (e .1 .0) ≡ now (d .1 .0))
-    × (now (e .1 .1 .0) ≡ now (d .1 .1 .0))
-    × (now (e .1 .1 .1 .0) ≡ now (d .1 .1 .1 .0))
-    × (now (e .1 .1 .1 .1 .0) ≡ now (d .1 .1 .1 .1 .0))
-    × (now (e .1 .1 .1 .1 .1 .0) ≡ now (d .1 .1 .1 .1 .1 .0))
-    × (now (e .1 .1 .1 .1 .1 .1 .0) ≡ now (d .1 .1 .1 .1 .1 .1 .0)))
-
--- the answer of the INT reader, and which part of the section it hands out
-abbrev pub NotificationTight : Type 0
-NotificationTight =
-    AnyTwo contracts.notification-read
-    (λ κs z y e d. (now (e .1 .1 .0) ≡ now (d .1 .1 .0)) × (now z ≡ now y) × (ptr z .0 ≡ ptr y .0) × (ptr z .1 ≡ ptr y .1))
-
--- number and place for a foreign caller
-abbrev pub ForeignNotificationTight : Type 0
-ForeignNotificationTight =
-    AnyTwo contracts.fossknut-notification
-    (λ κs z y e d. (z ≡ y) × (placeTold κs e ≡ placeTold κs d))
+-- which part of what was lent is handed out: its bytes, its block and its place there
+abbrev pub SamePart : RefT (List ℕ) → RefT (List ℕ) → Type 0
+SamePart z y = (now z ≡ now y) × (ptr z .0 ≡ ptr y .0) × (ptr z .1 ≡ ptr y .1)
 
 pub record Tight : Type 0 where
   -- wire
@@ -108,56 +27,83 @@ pub record Tight : Type 0 where
   pub both : OneResult contracts.both
   pub either : OneResult contracts.either
   pub first : OneResult contracts.first
-  pub copy : CopyTight
+  pub copy : AnyTwo contracts.copy
+      (λ κs z y (_, (e, _)) (_, (d, _)). now e ≡ now d)
+  pub put : AnyTwo contracts.put
+      (λ κs z y (_, (_, (e, _))) (_, (_, (d, _))). (z ≡ y) × (now e ≡ now d))
   -- crc
   pub crc-32 : OneResult contracts.crc-32
-  -- fields
+  -- section_fields
+  pub table-id : OneResult contracts.table-id
+  pub section-syntax-indicator : OneResult contracts.section-syntax-indicator
+  pub private-indicator : OneResult contracts.private-indicator
   pub section-length : OneResult contracts.section-length
+  pub address : OneResult contracts.address
+  pub payload-scrambling-control : OneResult contracts.payload-scrambling-control
+  pub address-scrambling-control : OneResult contracts.address-scrambling-control
+  pub llc-snap-flag : OneResult contracts.llc-snap-flag
+  pub current-next-indicator : OneResult contracts.current-next-indicator
   pub section-number : OneResult contracts.section-number
   pub last-section-number : OneResult contracts.last-section-number
-  pub payload-scrambling-control : OneResult contracts.payload-scrambling-control
-  pub llc-snap-flag : OneResult contracts.llc-snap-flag
-  pub address : OneResult contracts.address
-  pub same-address : OneResult contracts.same-address
-  pub offer-length : OneResult contracts.offer-length
-  -- header
+  pub payload : AnyTwo contracts.payload
+      (λ κs z y e d. SamePart z y)
+  pub checked : AnyTwo contracts.checked
+      (λ κs z y e d. SamePart z y)
+  pub crc-field : OneResult contracts.crc-field
+  -- section_header
   pub header : OneResult contracts.header
-  -- settings
-  pub good-settings : OneResult contracts.good-settings
-  pub listing-settings : OneResult contracts.listing-settings
-  -- section
+  -- section_check
   pub fault : OneResult contracts.fault
   pub check : OneResult contracts.check
-  -- receiver
-  pub receive : ReceiveTight
+  -- settings
+  pub good-settings : OneResult contracts.good-settings
+  pub same-address : OneResult contracts.same-address
+  -- receiver: the answer, the state after, and what is left in the buffer
+  pub receive : AnyTwo contracts.receive
+      (λ κs z y (_, (_, (_, (e, _)))) (_, (_, (_, (d, _)))). (z ≡ y) × (now e ≡ now d))
   pub gap : OneResult contracts.gap
-  -- sender
-  pub send : SendTight
-  pub send-by-default : SendByDefaultTight
-  -- notification
-  pub notification-read : NotificationTight
+  -- sender: the answer, and what is left in the output
+  pub send : AnyTwo contracts.send
+      (λ κs z y (_, (_, (_, (_, (e, _))))) (_, (_, (_, (_, (d, _))))). (z ≡ y) × (now e ≡ now d))
+  pub send-by-default : AnyTwo contracts.send-by-default
+      (λ κs z y (_, (_, (_, (e, _)))) (_, (_, (_, (d, _)))). (z ≡ y) × (now e ≡ now d))
+  -- recording
+  pub listing-settings : OneResult contracts.listing-settings
+  pub offer-length : OneResult contracts.offer-length
+  -- notification: the number that is written, and the part of the section
+  pub notification-read : AnyTwo contracts.notification-read
+      (λ κs z y (_, (_, (e, _))) (_, (_, (d, _))). (now e ≡ now d) × SamePart z y)
   pub notice : OneResult contracts.notice
   -- pes
   pub pes-read : OneResult contracts.pes-read
-  pub pes-data : DataTight
-  -- answers
+  pub pes-data : AnyTwo contracts.pes-data
+      (λ κs z y e d. SamePart z y)
+  -- answer_numbers, notification_numbers
   pub number-of : OneResult contracts.number-of
   pub length-of : OneResult contracts.length-of
   pub sending-number : OneResult contracts.sending-number
   pub sending-length : OneResult contracts.sending-length
   pub notice-number : OneResult contracts.notice-number
   pub notice-place : OneResult contracts.notice-place
-  -- numbers
+  -- caller_numbers
   pub address-of : OneResult contracts.address-of
   pub settings-of : OneResult contracts.settings-of
   pub state-of : OneResult contracts.state-of
-  pub put : PutTight
-  -- exports
+  pub put-state : AnyTwo contracts.put-state
+      (λ κs z y (_, (run, (next, (last, (filled, (flag, _)))))) (_, (run′, (next′, (last′, (filled′, (flag′, _)))))).
+      numbers (now run) (now next) (now last) (now filled) (now flag) ≡ numbers (now run′) (now next′) (now last′) (now filled′) (now flag′))
+  -- fossknut: the answer, and all that is given back
   pub fossknut-crc-32 : OneResult contracts.fossknut-crc-32
   pub fossknut-check : OneResult contracts.fossknut-check
-  pub fossknut-receive : ForeignReceiveTight
-  pub fossknut-gap : ForeignGapTight
-  pub fossknut-send : ForeignSendTight
-  pub fossknut-send-by-default : ForeignSendByDefaultTight
-  pub fossknut-notification : ForeignNotificationTight
-  pub fossknut-pes : ForeignPesTight
+  pub fossknut-receive : AnyTwo contracts.fossknut-receive
+      (λ κs z y e d. (z ≡ y) × (receiveGave κs e ≡ receiveGave κs d))
+  pub fossknut-gap : AnyTwo contracts.fossknut-gap
+      (λ κs z y e d. gapGave κs e ≡ gapGave κs d)
+  pub fossknut-send : AnyTwo contracts.fossknut-send
+      (λ κs z y e d. (z ≡ y) × (sendGave κs e ≡ sendGave κs d))
+  pub fossknut-send-by-default : AnyTwo contracts.fossknut-send-by-default
+      (λ κs z y e d. (z ≡ y) × (defaultGave κs e ≡ defaultGave κs d))
+  pub fossknut-notification : AnyTwo contracts.fossknut-notification
+      (λ κs z y e d. (z ≡ y) × (offsetGave κs e ≡ offsetGave κs d))
+  pub fossknut-pes : AnyTwo contracts.fossknut-pes
+      (λ κs z y e d. packetGave κs z e ≡ packetGave κs y d)

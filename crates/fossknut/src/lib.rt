@@ -188,6 +188,6 @@ pub extern "C" fn fossknut_pes(
     *extension = reading.extension as usize;
     *rate = reading.rate as usize;
     *start = reading.start;
-    *length = pes::data(packet).len();
+    *length = reading.end - reading.start;
     reading.answer
 }

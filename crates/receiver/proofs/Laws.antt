@@ -3,13 +3,10 @@ use Prim.Native.Nat.{ℕ, _+_, _-_, _≤_}
 use native.Mathlib.Decide.{decLe}
 use native.Mathlib.Omega.{arith}
 use mathlib.Core.Path.{_≡_, sym, _∙_}
-use mathlib.Core.List.{List, _++_, append-assoc, append-nil}
+use mathlib.Core.List.{List}
 use mathlib.Core.Bool.{Bool, true, false}
 use lib.Dec.{leb}
-use lib.ListN.{length, take, drop, length-drop, drop-of-length-le}
-use lib.Seq.{paste, drop-drop, take-all, take-length}
 use borrow.Author.Tests.{eq-eqb, ne-eqb, le-leb, lt-leb, leb-true}
-use Rattle.wire.specs.Bytes.{over}
 use Rattle.wire.specs.Choice.{pick, both, Line, firstOf}
 use Rattle.wire.proofs.Choice.{both-true}
 use Rattle.rules.specs.declared.Step.{Step}
@@ -34,17 +31,6 @@ pub does-past : {n : ℕ} {r : Step} {d : List ℕ} (lines : List Line) (b : Lis
     → n ≡ firstOf lines → n ≡ 0 → Does o r d → Does (refuseFirst lines b o) r d
 unfolding refuseFirst
 does-past lines b o e z h = does-yes _ _ (eq-eqb _ _ (sym e ∙ z)) h
-
--- the part of b from f on, with all of p laid over its start, put back
-pub store-is : (f : ℕ) (p b d : List ℕ) → f + length p ≤ length b → d ≡ over p (take (length b - f) (drop f b))
-    → take f b ++ (d ++ drop (length b - f) (drop f b)) ≡ paste b f p (length p)
-store-is f p b d h e =
-    let l : length (drop f b) ≡ length b - f = length-drop f b in
-    let m : length (drop f b) ≤ length b - f = omega arith in
-    let k : length p ≤ length (drop f b) = omega arith in
-    let whole = take-all (length b - f) (drop f b) m in
-    let all = take-all (length (drop f b)) p k in
-    rw (e, whole, drop-of-length-le (drop f b) m, all, append-nil, drop-drop, take-length, append-assoc)
 
 -- a sum is within a bound that its first part is within
 pub leb-shift : (f n m : ℕ) → f ≤ m → leb n (m - f) ≡ leb (f + n) m

@@ -7,6 +7,7 @@ use rules::Step;
 use section_fields::address;
 use section_fields::last_section_number;
 use section_fields::llc_snap_flag;
+use section_fields::payload;
 use section_fields::payload_scrambling_control;
 use section_fields::section_number;
 use settings::same_address;
@@ -21,7 +22,7 @@ ghost use lib.Dec.{leb};
 ghost use Rattle.wire.specs.Choice.{first};
 ghost use Rattle.rules.specs.Section.{payload};
 ghost use Rattle.rules.specs.Step.{goodSettings, goodRun, goodState, keyOf, sameKey, continues, From, onward, place};
-ghost use Rattle.rules.specs.Step.{ours, payloadScrambled, overLimit, bar, room, refuse, laid, finish, keep, lay, stepOf, gapOf, Does};
+ghost use Rattle.rules.specs.Step.{ours, payloadScrambled, overLimit, bar, room, refuse, finish, keep, lay, stepOf, gapOf, Does};
 
 // The product is computed only where it is small.
 fn good_run(next: usize, last: usize, filled: usize) -> bool
@@ -93,17 +94,6 @@ fn bar(settings: Settings, s: &[u8]) -> u8
     )
 }
 
-// The payload; a slice too short for one has none.
-fn payload(s: &[u8]) -> &[u8]
-    ensures { λ r. ⌜ now r ≡ payload (now (s .entry)) ⌝ }
-{
-    if s.len() < 16 {
-        return &s[..0];
-    }
-    let end = s.len() - 4;
-    &s[12..end]
-}
-
 // A refusal drops the run, whatever the buffer has.
 fn refuse(number: u8) -> Step
     ensures { λ r. ⌜ ((b : List ℕ) → Does (refuse number b) r b) ⌝ }
@@ -112,14 +102,6 @@ fn refuse(number: u8) -> Step
         answer: Answer::Refused(number),
         state: State::Idle,
     }
-}
-
-// Lays the payload over the buffer from f on, and writes no other byte.
-fn store(f: usize, s: &[u8], buffer: &mut [u8])
-    requires { ⌜ f + length (payload (now s)) ≤ length (now buffer) ⌝ }
-    ensures { λ _. ⌜ now (buffer .exit) ≡ laid f (now (s .entry)) (now (buffer .entry)) ⌝ }
-{
-    wire::copy(payload(s), &mut buffer[f..]);
 }
 
 // The unit is delivered with the length that is filled, whatever the buffer has.
@@ -132,13 +114,13 @@ fn finish(filled: usize) -> Step
     }
 }
 
-// Stores a payload that fits. After the last section the unit is finished, else the run is open.
-fn keep(f: usize, s: &[u8], buffer: &mut [u8]) -> Step
-    requires { ⌜ f + length (payload (now s)) ≤ room (now buffer) ⌝ }
+// Stores the payload of s, which fits. After the last section the unit is finished, else the run is open.
+fn keep(f: usize, s: &[u8], bytes: &[u8], buffer: &mut [u8]) -> Step
+    requires { ⌜ now bytes ≡ payload (now s) ⌝ }
+    requires { ⌜ f + length (now bytes) ≤ room (now buffer) ⌝ }
     ensures { λ r. ⌜ Does (keep f (now (s .entry)) (now (buffer .entry))) r (now (buffer .exit)) ⌝ }
 {
-    store(f, s, buffer);
-    let filled = f + payload(s).len();
+    let filled = wire::put(bytes, f, buffer);
     if section_number(s) == last_section_number(s) {
         return finish(filled);
     }
@@ -165,9 +147,9 @@ fn fits(f: usize, n: usize, most: usize) -> bool
 fn lay(f: usize, s: &[u8], buffer: &mut [u8]) -> Step
     ensures { λ r. ⌜ Does (lay (From f) (now (s .entry)) (now (buffer .entry))) r (now (buffer .exit)) ⌝ }
 {
-    let room = wire::smaller(65535, buffer.len());
-    if fits(f, payload(s).len(), room) {
-        return keep(f, s, buffer);
+    let bytes = payload(s);
+    if fits(f, bytes.len(), wire::smaller(65535, buffer.len())) {
+        return keep(f, s, bytes, buffer);
     }
     refuse(23)
 }

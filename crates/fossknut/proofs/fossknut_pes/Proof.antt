@@ -1,10 +1,8 @@
--- Each number is read off what `read` gave, and the data's length is that of the part that `data` gave.
-use mathlib.Core.Path.{refl, ap, _∙_}
-use lib.ListN.{length}
-use lib.Seq.{length-slice}
+-- Each number is read off what `read` gave, and the data begins before it ends.
+use Prim.Native.Nat.{_-_}
+use mathlib.Core.Path.{ap, _∙_}
 use denote.Ref.{now}
 use Rattle.pes_rules.specs.declared.Reading.{Reading}
-use Rattle.pes_rules.specs.Packet.{readOf}
 use Rattle.pes_rules.proofs.Answer.{data-within}
 use Rattle.caller_numbers.specs.Numbers.{flagNumber}
 use Rattle.caller_numbers.proofs.Meaning.{flag-byte}
@@ -27,15 +25,16 @@ cast-extension c = search needs
 cast-rate : tie.Need-cast-rate
 cast-rate c = search needs
 
-data-requires : tie.Need-data-requires
-data-requires c κs = search needs
+sub-length : tie.Need-sub-length
+sub-length c =
+    let call = c .before .before .before .before .before in
+    data-within (now (call .before .before .args .packet)) _ (call .read .ensures) .order
 
 returns : tie.Need-returns
 returns c =
     let call = c .before .before .before .before .before in
     let r = call .read .result in
     let e = call .read .ensures in
-    let s = now (call .before .before .args .packet) in
     record {
       answer = ap (λ (o : Reading). o .answer) e;
       extended = flag-byte (r .extended) ∙ ap (λ (o : Reading). flagNumber (o .extended)) e;
@@ -43,7 +42,7 @@ returns c =
       extension = ap (λ (o : Reading). o .extension) e;
       rate = ap (λ (o : Reading). o .rate) e;
       start = ap (λ (o : Reading). o .start) e;
-      length = ap length (c .data .ensures .bytes) ∙ length-slice (readOf s .start) (readOf s .end) s (data-within s (readOf s) refl .inside);
+      length = ap (λ (o : Reading). o .end - o .start) e;
     }
 
 pub fossknut-pes-spec : {M : Type 1} → statement M
@@ -55,5 +54,5 @@ fossknut-pes-spec =
     cast-rated
     cast-extension
     cast-rate
-    data-requires
+    sub-length
     returns)

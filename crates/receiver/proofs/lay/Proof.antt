@@ -17,19 +17,21 @@ test : (x : tie.After-fits2)
     → let a = x .before .before .before .before .before .args in
     x .fits2 .result ≡ leb (a .f + length (payload (now (a .s)))) (room (now (a .buffer)))
 unfolding room
-test x = x .fits2 .ensures ∙ rw (x .before .payload .ensures, x .before .before .smaller .ensures)
-
-smaller-requires : tie.Need-smaller-requires
-smaller-requires c κs = search needs
+test x = x .fits2 .ensures ∙ rw (x .before .before .payload .ensures .bytes, x .before .smaller .ensures)
 
 payload-requires : tie.Need-payload-requires
 payload-requires c κs = search needs
+
+smaller-requires : tie.Need-smaller-requires
+smaller-requires c κs = search needs
 
 fits-requires : tie.Need-fits-requires
 fits-requires c κs = search needs
 
 keep-requires : tie.Need-keep-requires
-keep-requires c κs = leb-true _ _ (was (test (c .before .before)) (c .before .if1 .taken))
+keep-requires c κs =
+    let bytes = c .before .before .before .before .payload .ensures .bytes in
+    (bytes, rw bytes (leb-true _ _ (was (test (c .before .before)) (c .before .if1 .taken))))
 
 same-length : tie.Need-same-length
 same-length c = search needs
@@ -51,8 +53,8 @@ pub lay-spec : {M : Type 1} → statement M
 lay-spec =
     tie.close
     (tie.spec
-    smaller-requires
     payload-requires
+    smaller-requires
     fits-requires
     keep-requires
     same-length

@@ -55,18 +55,22 @@ size-good-requires c κs = search needs
 
 returns-2 : tie.Need-returns-2
 unfolding sendLines firstOf
-returns-2 c =
-    (λ z. omega (arith, z), λ flag.
-    not-first 10 _ (was (ap not (c .before .before .before .good-settings .ensures)) (c .before .before .if1 .left))
-    (yes-first 50 _ (was (ap not (c .before .size-good .ensures)) (c .if2 .taken))))
+returns-2 c = (
+  λ z. omega (arith, z),
+  λ flag.
+      not-first 10 _ (was (ap not (c .before .before .before .good-settings .ensures)) (c .before .before .if1 .left))
+      (yes-first 50 _ (was (ap not (c .before .size-good .ensures)) (c .if2 .taken))),
+)
 
 returns-3 : tie.Need-returns-3
 unfolding sendLines firstOf
 returns-3 c =
-    let s = c .before .before in
-    (λ z. omega (arith, z), λ flag.
-    not-first 10 _ (was (ap not (s .before .before .good-settings .ensures)) (s .before .if1 .left))
-    (not-first 50 _ (was (ap not (s .size-good .ensures)) (c .before .if2 .left)) (yes-first 51 _ (lt-ltb 65535 _ (c .if3 .taken)))))
+    let s = c .before .before in (
+      λ z. omega (arith, z),
+      λ flag.
+          not-first 10 _ (was (ap not (s .before .before .good-settings .ensures)) (s .before .if1 .left))
+          (not-first 50 _ (was (ap not (s .size-good .ensures)) (c .before .if2 .left)) (yes-first 51 _ (lt-ltb 65535 _ (c .if3 .taken)))),
+    )
 
 section-count-requires : tie.Need-section-count-requires
 section-count-requires c κs =
@@ -92,20 +96,24 @@ unfolding counted
 returns-5 c =
     let n = c .before .before .before in
     let a = n .before .before .before .before .before .before .before .before .args in
-    let within : sectionCount (a .size) (now (a .unit)) ≤ a .settings .limit = omega (arith, c .before .if4 .left, n .section-count .ensures .is) in
-    (λ z. omega (arith, z), λ flag.
-    past (n .before) flag (not-first 52 _ (le-ltb _ _ within)
-    (yes-first 53 _ (lt-ltb _ _ (rw (short n flag) at (c .if5 .taken))))))
+    let within : sectionCount (a .size) (now (a .unit)) ≤ a .settings .limit = omega (arith, c .before .if4 .left, n .section-count .ensures .is) in (
+      λ z. omega (arith, z),
+      λ flag.
+          past (n .before) flag (not-first 52 _ (le-ltb _ _ within)
+          (yes-first 53 _ (lt-ltb _ _ (rw (short n flag) at (c .if5 .taken))))),
+    )
 
 returns-6 : tie.Need-returns-6
 unfolding counted
 returns-6 c =
     let n = c .before .before .before in
     let a = n .before .before .before .before .before .before .before .before .args in
-    let within : sectionCount (a .size) (now (a .unit)) ≤ a .settings .limit = omega (arith, c .before .if4 .left, n .section-count .ensures .is) in
-    (n .section-count .ensures .is, λ flag. sym
-    (past (n .before) flag (not-first 52 _ (le-ltb _ _ within)
-    (not-first 53 _ (le-ltb _ _ (rw (short n flag) at (c .if5 .left))) refl))))
+    let within : sectionCount (a .size) (now (a .unit)) ≤ a .settings .limit = omega (arith, c .before .if4 .left, n .section-count .ensures .is) in (
+      n .section-count .ensures .is,
+      λ flag. sym
+          (past (n .before) flag (not-first 52 _ (le-ltb _ _ within)
+          (not-first 53 _ (le-ltb _ _ (rw (short n flag) at (c .if5 .left))) refl))),
+    )
 
 pub decide-spec : {M : Type 1} → statement M
 decide-spec =
