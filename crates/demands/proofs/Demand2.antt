@@ -16,7 +16,7 @@ use Rattle.rules.specs.Sound.{table3}
 use Rattle.rules.proofs.Demand2.{round-trip}
 use Rattle.rules.proofs.Exactly.{sound-exactly}
 use Rattle.rules.proofs.Handed.{arrives-handed, handedRow}
-use Rattle.rules.proofs.Send.{Given, given, given-bytes, sent-by-number}
+use Rattle.rules.proofs.Send.{SentAll, sent-all, sent-all-bytes, sent-by-number}
 use Rattle.demands.specs.Abroad.{defaultGiven, sendGiven, SendGiven, sizeGiven}
 use Rattle.demands.specs.Demand2.{Demand2, GivenBack, SentRight}
 use Rattle.demands.proofs.Demand3.{row-handed}
@@ -34,8 +34,8 @@ sent-right c flag size u out h =
     let o : SendOutcome = sentOf c flag size u out in
     let n : ℕ = sendingLength (o .sending) in
     let sent : o .sending ≡ Sent n = sent-by-number c flag size u out h in
-    let g : Given c flag size u out n = given c flag size u out n sent in
-    let bytes : take n (o .output) ≡ flatten (sections c flag size u) = given-bytes c flag size u out n g in
+    let g : SentAll c flag size u out n = sent-all c flag size u out n sent in
+    let bytes : take n (o .output) ≡ flatten (sections c flag size u) = sent-all-bytes c flag size u out n g in
     let d : Carries c flag size u (take n (o .output)) = round-trip c flag size u out n sent in
     record {
       written =

@@ -23,7 +23,7 @@ use Rattle.pes_rules.proofs.Exactly.{others-give-nothing as packet-others, take
 use Rattle.pes_rules.proofs.Meaning.{packet-means}
 use Rattle.pes_rules.proofs.Written.{written-is-read}
 use Rattle.caller_numbers.specs.Numbers.{flagNumber}
-use Rattle.fossknut.specs.Given.{Told}
+use Rattle.fossknut.specs.Told.{PacketTold}
 use Rattle.demands.specs.Abroad.{NotificationGiven, notificationGiven}
 use Rattle.demands.specs.Readers.{Notices, packetNumbers, Packets, Readers}
 
@@ -71,7 +71,7 @@ data-count s =
 
 -- what a foreign caller is given of an outcome is what a reading and its data have
 given : {s : List ℕ} {r : Reading} {p : Part} {z extended rated extension rate start count : ℕ}
-    → Told (readOf s) z extended rated extension rate start count → GivesPacket s r p
+    → PacketTold (readOf s) z extended rated extension rate start count → GivesPacket s r p
     → record {
       answer = z;
       extended = extended;
@@ -93,7 +93,7 @@ readers =
       notification-read = λ κs (device, (s, _)) z e p.
           notices device (now s) _ _ (p .number) (λ x g. (p .number ∙ g .number, same-part _ _ _ z (g .given) (p .part)));
       fossknut-notification = λ κs a z e p. let given : NotificationGiven = notificationGiven κs a in
-          notices (given .device) (given .section) z _ (p .number) (λ x g. (p .number ∙ g .number, p .place ∙ g .place));
+          notices (given .device) (given .section) z _ (p .number) (λ x g. (p .number ∙ g .number, p .offset ∙ g .offset));
       pes-read = λ κs (packet, _) z e p. packets (now packet) (z .answer) _ (ap (λ (r : Reading). r .answer) p) (λ r q g. p ∙ g .reading);
       pes-data = λ κs (packet, _) z e p. (readOf (now packet) .answer, packets (now packet) _ _ refl (λ r q g. same-part _ _ _ z (g .given) p));
       fossknut-pes = λ κs (packet, _) z e p. packets (now packet) z _ (p .answer) (λ r q g. given p g);

@@ -94,8 +94,8 @@ crc-field = function section_fields.crc_field.Kinds.ps section_fields.crc_field.
 abbrev pub header : Function
 header = function section_header.header.Kinds.ps section_header.header.Kinds.r section_header.header.Reads.Learnt
 
-abbrev pub fault : Function
-fault = function section_check.fault.Kinds.ps section_check.fault.Kinds.r section_check.fault.Reads.Learnt
+abbrev pub shared-refusal : Function
+shared-refusal = function section_check.shared_refusal.Kinds.ps section_check.shared_refusal.Kinds.r section_check.shared_refusal.Reads.Learnt
 
 abbrev pub check : Function
 check = function section_check.check.Kinds.ps section_check.check.Kinds.r section_check.check.Reads.Learnt

@@ -54,7 +54,7 @@ packetNumbers r p =
       rated = cond (r .rated) 1 0;
       extension = r .extension;
       rate = r .rate;
-      start = p .place;
+      start = p .offset;
       count = length (p .bytes);
     }
 
@@ -68,7 +68,7 @@ pub record Readers : Type 0 where
       Notices device (now s) (now answer) (λ x. (now answer ≡ x .number) × Is (s .ptr) (x .given) z))
   pub fossknut-notification : Allowed contracts.fossknut-notification
       (λ κs a z e. let given = notificationGiven κs a in
-      Notices (given .device) (given .section) z (λ x. (z ≡ x .number) × (offsetGave κs e ≡ x .given .place)))
+      Notices (given .device) (given .section) z (λ x. (z ≡ x .number) × (offsetGave κs e ≡ x .given .offset)))
   pub pes-read : Allowed contracts.pes-read
       (λ κs (packet, _) z e. Packets (now packet) (z .answer) (λ r p. z ≡ r))
   -- z is the data part of the packet, bytes and place; the number is not told, and is the rows' own

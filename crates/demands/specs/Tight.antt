@@ -53,7 +53,7 @@ pub record Tight : Type 0 where
   -- section_header
   pub header : OneResult contracts.header
   -- section_check
-  pub fault : OneResult contracts.fault
+  pub shared-refusal : OneResult contracts.shared-refusal
   pub check : OneResult contracts.check
   -- settings
   pub good-settings : OneResult contracts.good-settings

@@ -9,7 +9,7 @@ ghost use Rattle.rules.specs.Crc.{crc32};
 ghost use Rattle.rules.specs.Send.{sentOf, defaultPiece};
 ghost use Rattle.rules.specs.Step.{stepOf, gapOf};
 ghost use Rattle.caller_numbers.specs.Numbers.{addressOf, settingsOf, flagOf, numbers, stateOf, numbersOf};
-ghost use Rattle.fossknut.specs.Given.{Given, Gives, Noticed, Told};
+ghost use Rattle.fossknut.specs.Told.{ReceiveTold, SendTold, Noticed, PacketTold};
 ghost use Rattle.notification_rules.specs.Notice.{noticeOf};
 ghost use Rattle.pes_rules.specs.Packet.{readOf};
 
@@ -52,7 +52,7 @@ pub extern "C" fn fossknut_receive(
     buffer: &mut [u8],
     length: &mut usize,
 ) -> u8
-    ensures { λ r. ⌜ Given
+    ensures { λ r. ⌜ ReceiveTold
         (stepOf
         (settingsOf mac1 mac2 mac3 mac4 mac5 mac6 range limit)
         (stateOf (numbers (now (run .entry)) (now (next .entry)) (now (last .entry)) (now (filled .entry)) (now (flag .entry))))
@@ -107,7 +107,7 @@ pub extern "C" fn fossknut_send(
     out: &mut [u8],
     length: &mut usize,
 ) -> u8
-    ensures { λ r. ⌜ Gives (sentOf (settingsOf mac1 mac2 mac3 mac4 mac5 mac6 range limit) (flagOf flag) size
+    ensures { λ r. ⌜ SendTold (sentOf (settingsOf mac1 mac2 mac3 mac4 mac5 mac6 range limit) (flagOf flag) size
         (now (unit .entry)) (now (out .entry))) r (now (length .exit)) (now (out .exit)) ⌝ }
 {
     let settings = settings_of(mac1, mac2, mac3, mac4, mac5, mac6, range, limit);
@@ -132,7 +132,7 @@ pub extern "C" fn fossknut_send_by_default(
     out: &mut [u8],
     length: &mut usize,
 ) -> u8
-    ensures { λ r. ⌜ Gives (sentOf (settingsOf mac1 mac2 mac3 mac4 mac5 mac6 range limit) (flagOf flag) defaultPiece
+    ensures { λ r. ⌜ SendTold (sentOf (settingsOf mac1 mac2 mac3 mac4 mac5 mac6 range limit) (flagOf flag) defaultPiece
         (now (unit .entry)) (now (out .entry))) r (now (length .exit)) (now (out .exit)) ⌝ }
 {
     let settings = settings_of(mac1, mac2, mac3, mac4, mac5, mac6, range, limit);
@@ -157,7 +157,7 @@ pub extern "C" fn fossknut_notification(
     ensures { λ r. ⌜ Noticed (noticeOf (addressOf mac1 mac2 mac3 mac4 mac5 mac6) (now (s .entry))) r (now (place .exit)) ⌝ }
 {
     let notice = notification::notice(address_of(mac1, mac2, mac3, mac4, mac5, mac6), s);
-    *place = notification_numbers::notice_place(notice);
+    *offset = notification_numbers::notice_place(notice);
     notification_numbers::notice_number(notice)
 }
 
@@ -172,7 +172,7 @@ pub extern "C" fn fossknut_pes(
     start: &mut usize,
     length: &mut usize,
 ) -> u8
-    ensures { λ r. ⌜ Told
+    ensures { λ r. ⌜ PacketTold
         (readOf (now (packet .entry)))
         r
         (now (extended .exit))

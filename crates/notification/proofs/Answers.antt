@@ -36,7 +36,7 @@ empty : (device : Address) (s r : RefT (List ℕ)) (n : ℕ) (x : Notice) → no
 empty device s r n x e en ep b p =
     record {
       number = rw e en;
-      part = rw (e, ← ep) (record { bytes = b; block = ap (λ (q : ℕ × ℕ). q .0) p; place = ap (λ (q : ℕ × ℕ). q .1) p ∙ zero-more (s .ptr .1) });
+      part = rw (e, ← ep) (record { bytes = b; block = ap (λ (q : ℕ × ℕ). q .0) p; offset = ap (λ (q : ℕ × ℕ). q .1) p ∙ zero-more (s .ptr .1) });
     }
   where
     zero-more : (n : ℕ) → n ≡ 0 + n
@@ -175,15 +175,15 @@ module _ (device : Address) (s h : List ℕ) (eh : h ≡ checked s) (z : refusal
       notice-place p f = notice-found ∙ f has-location
 
       -- the nine bytes
-      nine : (x d : Part) → List·Memᴰ x (loopsOf s) → located (descriptorsOf x) ≡ at d → drop 2 (d .bytes) ≡ take 9 (drop (d .place + 2) s)
+      nine : (x d : Part) → List·Memᴰ x (loopsOf s) → located (descriptorsOf x) ≡ at d → drop 2 (d .bytes) ≡ take 9 (drop (d .offset + 2) s)
       nine x d m e =
           let b = nine-in s x d (sound s z) m e in
           let w = b .whole in
           let k : 2 ≤ length (d .bytes) = omega (arith, w) in
-          sym (stands-bytes s (part (d .place + 2) (drop 2 (d .bytes))) 9 (length-drop 2 (d .bytes) ∙ omega (arith, w)) (stands-behind s d 2 k (b .stands)))
+          sym (stands-bytes s (part (d .offset + 2) (drop 2 (d .bytes))) 9 (length-drop 2 (d .bytes) ∙ omega (arith, w)) (stands-behind s d 2 k (b .stands)))
 
       nine-of : (a b : Location) → a ≡ located (descriptorsOf (pairAt h r .operational)) → b ≡ located (descriptorsOf (platformAt h)) → (d : Part) → orElse a b ≡ at d
-          → drop 2 (d .bytes) ≡ take 9 (drop (d .place + 2) s)
+          → drop 2 (d .bytes) ≡ take 9 (drop (d .offset + 2) s)
       unfolding orElse
       nine-of nowhere b ea eb d e = nine (platformAt h) d platform-is (sym eb ∙ e)
       nine-of (at x) b ea eb d e = nine (pairAt h r .operational) d operational-is (sym ea ∙ e)
@@ -193,7 +193,7 @@ module _ (device : Address) (s h : List ℕ) (eh : h ≡ checked s) (z : refusal
       unfolding found locationOf isLocation
       given start v nowhere e i = absurd (never (sym (ap isLocation e) ∙ has-location))
       given start v (at d) e i =
-          (refl, record { bytes = i .bytes ∙ nine-of _ _ refl refl d e; block = i .block; place = i .place })
+          (refl, record { bytes = i .bytes ∙ nine-of _ _ refl refl d e; block = i .block; offset = i .offset })
 
       pub found-given : (start : ℕ × ℕ) (v : RefT (List ℕ)) → Picked start (locationOf (platformAt h) (pairAt h r)) v
           → (3 ≡ noticeNumber (noticeOf device s)) × Is start (partOf s (noticeOf device s)) v

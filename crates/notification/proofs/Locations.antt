@@ -60,7 +60,7 @@ module _ (s r : RefT (List ℕ)) (n : ℕ) (e : n ≡ descriptorSize (now s)) wh
             record {
               bytes = c .is .bytes ∙ ap (λ (b : List ℕ). drop (c .passed) b) (i .bytes) ∙ drop-drop (c .passed) n (now s);
               block = c .is .block ∙ i .block;
-              place = omega (arith, c .is .place, i .place);
+              offset = omega (arith, c .is .offset, i .offset);
             };
         first = λ o.
             let m : c .passed + (o + n) ≡ n + c .passed + o = omega arith in
@@ -76,7 +76,7 @@ reaches-here s n e h q =
     record {
       passed = 0;
       inside = omega arith;
-      is = record { bytes = refl; block = refl; place = omega arith };
+      is = record { bytes = refl; block = refl; offset = omega arith };
       first = λ o.
           let k : 0 + o ≡ o = omega arith in
           rw (located-more o (now s) l, eq-eqb (byteAt (now s) 0) streamLocation q, k) (sym (front-some o (now s) l));
@@ -98,7 +98,7 @@ module _ (start : ℕ × ℕ) (o n : ℕ) (s r v : RefT (List ℕ)) (e : n ≡ d
       let w : length (take n (now r)) ≡ n = length-take-le n (now r) h in
       let l : descriptorSize (now r) ≤ length (now r) = omega arith in
       rw (c .first o, front-some (c .passed + o) (now r) l, ← e) (
-        record { bytes = j .bytes; block = j .block ∙ c .is .block ∙ i .block; place = omega (arith, j .place, c .is .place, i .place) },
+        record { bytes = j .bytes; block = j .block ∙ c .is .block ∙ i .block; offset = omega (arith, j .offset, c .is .offset, i .offset) },
         omega (arith, descriptor-two (now r), ap length (j .bytes)),
       )
 
@@ -106,11 +106,11 @@ module _ (start : ℕ × ℕ) (o n : ℕ) (s r v : RefT (List ℕ)) (e : n ≡ d
 module _ (start : ℕ × ℕ) (r b : RefT (List ℕ)) (h : Behind r 2 b) where
   body-of : (d : Part) → Is start d r → 2 ≤ length (now r) → Picked start (at d) b
   body-of d i l =
-      let q = h .place l in
+      let q = h .offset l in
       record {
         bytes = q .bytes ∙ ap (λ (s : List ℕ). drop 2 s) (i .bytes);
         block = q .block ∙ i .block;
-        place = omega (arith, q .place, i .place);
+        offset = omega (arith, q .offset, i .offset);
       }
 
   picked : (l : Location) → Located start l r → Picked start l b

@@ -34,7 +34,7 @@ loopFault turn s other =
 -- ---- a slice without its first k bytes
 pub record Behind (s : RefT (List ℕ)) (k : ℕ) (r : RefT (List ℕ)) : Type 0 where
   pub bytes : now r ≡ drop k (now s)
-  pub place : k ≤ length (now s) → Is (s .ptr) (part k (drop k (now s))) r
+  pub offset : k ≤ length (now s) → Is (s .ptr) (part k (drop k (now s))) r
 
 -- ---- a loop at a place
 unfoldable pub loopAt : List ℕ → ℕ → List ℕ
@@ -72,7 +72,7 @@ Locates s r =
 -- its body
 abbrev pub Picked : ℕ × ℕ → Location → RefT (List ℕ) → Type 0
 Picked start nowhere r = now r ≡ []
-Picked start (at d) r = Is start (part (d .place + 2) (drop 2 (d .bytes))) r
+Picked start (at d) r = Is start (part (d .offset + 2) (drop 2 (d .bytes))) r
 
 -- the first 0x13 of the one loop, else of the other, with the places of what they hold
 abbrev pub pickIn : List ℕ → ℕ → List ℕ → ℕ → Location

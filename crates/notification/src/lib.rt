@@ -51,7 +51,7 @@ fn wrong_hash(s: &[u8]) -> bool
 }
 
 // The first of 30 and 31 that applies, else 0.
-fn platform_fault(s: &[u8]) -> u8
+fn platform_refusal(s: &[u8]) -> u8
     ensures { λ r. ⌜ r ≡ firstOf (platformLines (now (s .entry))) ⌝ }
 {
     first(other_action(s), 30, first(wrong_hash(s), 31, 0))
@@ -71,11 +71,11 @@ fn checked<'a>(s: &'a [u8]) -> &'a [u8]
 fn refusal(s: &[u8]) -> u8
     ensures { λ r. ⌜ r ≡ refusal (now (s .entry)) ⌝ }
 {
-    let number = section_check::fault(notification_form(), s);
+    let number = section_check::shared_refusal(notification_form(), s);
     if number != 0 {
         return number;
     }
-    let platform = platform_fault(s);
+    let platform = platform_refusal(s);
     if platform != 0 {
         return platform;
     }

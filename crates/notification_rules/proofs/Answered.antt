@@ -167,7 +167,7 @@ module _ (l : Loop) (f : FitsLoop l) where
 -- the nine bytes of a 0x13, and their place
 partAt : Location → Option Part
 partAt nowhere = none
-partAt (at d) = some (part (d .place + 2) (drop 2 (d .bytes)))
+partAt (at d) = some (part (d .offset + 2) (drop 2 (d .bytes)))
 
 nine-is : (o : ℕ) (ds : List Descriptor) → partAt (located (placed o (map descriptorWritten ds))) ≡ locationIn o ds
 unfolding located placed locationIn pick partAt
@@ -192,7 +192,7 @@ else-is (at d) b = refl
 -- ---- the search
 noticeAt : Option Part → Notice
 noticeAt none = Nobody
-noticeAt (some p) = Found (p .place)
+noticeAt (some p) = Found (p .offset)
 
 pair-is : (platform : Part) (c : Bool) (x : Pair) (l : Location) → locationOf platform x ≡ l → (later : Option Pair) (o : Option Part)
     → chosen platform later ≡ noticeAt o
@@ -307,14 +307,14 @@ gives : (device : Address) (s : List ℕ) (o : Option Part) → noticeOf device 
     → Gives device s (Option·elim o foundNobody foundAt)
 unfolding noticeAt Option·elim
 gives device s none e h =
-    record { notice = e; number = ap noticeNumber e; place = ap noticePlace e; given = ap (partOf s) e }
+    record { notice = e; number = ap noticeNumber e; offset = ap noticePlace e; given = ap (partOf s) e }
 gives device s (some p) e h =
     let nine = h p refl in
     record {
       notice = e;
       number = ap noticeNumber e;
-      place = ap noticePlace e;
-      given = ap (partOf s) e ∙ ap (part (p .place)) (stands-bytes s p 9 (nine .long) (nine .stands));
+      offset = ap noticePlace e;
+      given = ap (partOf s) e ∙ ap (part (p .offset)) (stands-bytes s p 9 (nine .long) (nine .stands));
     }
 
 module _ (n : Notification) (t : Conforms n) where
@@ -331,7 +331,7 @@ module _ (n : Notification) (t : Conforms n) where
         front = headWritten n (length (loopWritten (n .platform) ++ pairs) + 13);
         back = _;
         is = append-assoc (headWritten n (length (loopWritten (n .platform) ++ pairs) + 13)) (loopWritten (n .platform) ++ pairs) _;
-        place = refl;
+        offset = refl;
       }
 
   general-stands : (p : Part) → locationIn 14 (n .platform .descriptors) ≡ some p → Nine s p

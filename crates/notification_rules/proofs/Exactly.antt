@@ -12,7 +12,7 @@ use Rattle.wire.specs.Choice.{both, pick, without}
 use Rattle.wire.specs.Part.{Part}
 use Rattle.wire.proofs.Choice.{firstOf-without}
 use Rattle.rules.specs.declared.Address.{Address}
-use Rattle.rules.specs.Check.{faultLines, formLines, orderLines}
+use Rattle.rules.specs.Check.{sharedLines, formLines, orderLines}
 use Rattle.notification_rules.specs.declared.Notice.{Notice}
 use Rattle.notification_rules.specs.declared.Notice.the-variants.{Found, Nobody, Refused}
 use Rattle.notification_rules.specs.Format.{Nothing, answerTo, foundAt, foundNobody, Notification, OthersGiveNothing, TakenExactly}
@@ -22,10 +22,10 @@ use Rattle.notification_rules.proofs.Found.{takes}
 use Rattle.notification_rules.proofs.Rewritten.{taken-is-written}
 
 -- ---- the numbers of the lines
-no-line : (n : ℕ) (s : List ℕ) → without n (faultLines notificationForm s ++ (platformLines s ++ loopLines s)) ≡ true
+no-line : (n : ℕ) (s : List ℕ) → without n (sharedLines notificationForm s ++ (platformLines s ++ loopLines s)) ≡ true
     → (n ≡ 0 → ⊥) → refusal s ≡ n → ⊥
 unfolding refusal
-no-line n s h z = firstOf-without n (faultLines notificationForm s ++ (platformLines s ++ loopLines s)) h z
+no-line n s h z = firstOf-without n (sharedLines notificationForm s ++ (platformLines s ++ loopLines s)) h z
 
 number-refused : (device : Address) (s : List ℕ) → (refusal s ≡ 0 → ⊥) → noticeNumber (noticeOf device s) ≡ refusal s
 unfolding noticeOf pick
@@ -33,7 +33,7 @@ number-refused device s h = rw (ne-eqb (refusal s) 0 h)
 
 pub not-refused : (device : Address) (s : List ℕ) → (noticeNumber (noticeOf device s) ≡ 3) ⊎ (noticeNumber (noticeOf device s) ≡ 4)
     → refusal s ≡ 0
-unfolding without both faultLines formLines orderLines platformLines loopLines
+unfolding without both sharedLines formLines orderLines platformLines loopLines
 not-refused device s h = go (ℕ-discrete (refusal s) 0) h
   where
     go : Dec (refusal s ≡ 0) → (noticeNumber (noticeOf device s) ≡ 3) ⊎ (noticeNumber (noticeOf device s) ≡ 4) → refusal s ≡ 0
@@ -66,13 +66,13 @@ nothing : (device : Address) (s : List ℕ) (x : Notice) → noticeOf device s �
 nothing device s (Found p) e h = record { nobody = λ k. absurd (omega arith); refused = λ k. absurd (k refl) }
 nothing device s Nobody e h =
     record {
-      nobody = λ k. record { notice = e; number = ap noticeNumber e; place = ap noticePlace e; given = ap (partOf s) e };
+      nobody = λ k. record { notice = e; number = ap noticeNumber e; offset = ap noticePlace e; given = ap (partOf s) e };
       refused = λ j k. absurd (k refl);
     }
 nothing device s (Refused n) e h =
     record {
       nobody = λ k. absurd (h n refl k);
-      refused = λ j k. record { notice = e; number = ap noticeNumber e; place = ap noticePlace e; given = ap (partOf s) e };
+      refused = λ j k. record { notice = e; number = ap noticeNumber e; offset = ap noticePlace e; given = ap (partOf s) e };
     }
 
 pub others-give-nothing : OthersGiveNothing

@@ -16,10 +16,10 @@ use Rattle.wire.specs.Part.{Part}
 use Rattle.wire.proofs.Choice.{both-true, firstOf-past, never, not-first}
 use Rattle.wire.proofs.Meaning.{gives-last, gives-row, or-else, orElse, Tells, tells-eq, tells-not}
 use Rattle.rules.specs.declared.Address.{Address}
-use Rattle.rules.specs.Check.{fault, faultLines, formLines, orderLines, wrongSyntax}
+use Rattle.rules.specs.Check.{sharedRefusal, sharedLines, formLines, orderLines, wrongSyntax}
 use Rattle.rules.specs.Section.{sectionSyntaxIndicator}
-use Rattle.rules.proofs.Check.{fault-numbered}
-use Rattle.rules.proofs.Meaning.{gives-fault}
+use Rattle.rules.proofs.Check.{shared-numbered}
+use Rattle.rules.proofs.Meaning.{gives-refusal}
 use Rattle.notification_rules.specs.declared.Notice.{Notice}
 use Rattle.notification_rules.specs.declared.Notice.the-variants.{Found, Nobody, Refused}
 use Rattle.notification_rules.specs.Cut.{Cut, cutOf, every}
@@ -215,13 +215,13 @@ number-pick false x y = refl
 
 module _ (device : Address) (s : List ℕ) (b : Bytes s) where
   abbrev lines : List Line
-  lines = faultLines notificationForm s ++ (platformLines s ++ loopLines s)
+  lines = sharedLines notificationForm s ++ (platformLines s ++ loopLines s)
 
   abbrev sought : Notice
   sought = searched device (loopsOf s)
 
   number-notice : noticeNumber (noticeOf device s) ≡ orElse lines (first (isFound sought) 3 4)
-  unfolding noticeOf refusal without both faultLines formLines orderLines platformLines loopLines
+  unfolding noticeOf refusal without both sharedLines formLines orderLines platformLines loopLines
   number-notice =
       number-pick (eqb (firstOf lines) 0) sought (Refused (firstOf lines))
       ∙ or-else lines (noticeNumber sought) refl
@@ -237,11 +237,11 @@ module _ (device : Address) (s : List ℕ) (b : Bytes s) where
         λ w. three-found sought (searched-number device (loopsOf s)) (number (w .written) ∙ w .found),
       )
 
-  nothing-refused : fault notificationForm s ≡ 0 → otherAction s ≡ false → wrongHash s ≡ false → misfit s ≡ false → otherLength s ≡ false
+  nothing-refused : sharedRefusal notificationForm s ≡ 0 → otherAction s ≡ false → wrongHash s ≡ false → misfit s ≡ false → otherLength s ≡ false
       → refusal s ≡ 0
-  unfolding refusal fault platformLines loopLines firstOf
+  unfolding refusal sharedRefusal platformLines loopLines firstOf
   nothing-refused h e30 e31 e32 e33 =
-      firstOf-past (faultLines notificationForm s) _ (fault-numbered notificationForm s) h
+      firstOf-past (sharedLines notificationForm s) _ (shared-numbered notificationForm s) h
       ∙ sym (not-first 30 _ e30 (not-first 31 _ e31 (not-first 32 _ e32 (not-first 33 _ e33 refl))))
 
   unfilled-tells : Tells (misfit s) (¬ Filled s)
@@ -252,10 +252,10 @@ module _ (device : Address) (s : List ℕ) (b : Bytes s) where
       go false h = (λ e. absurd (never e), λ n. absurd (n (h .0 refl)))
 
 pub notification-means : NotificationMeans
-unfolding orElse faultLines formLines orderLines platformLines loopLines wrongSyntax sectionSyntaxIndicator
+unfolding orElse sharedLines formLines orderLines platformLines loopLines wrongSyntax sectionSyntaxIndicator
 notification-means device s b n =
     rw (number-notice device s b)
-    (gives-fault notificationForm s _ _ _ (syntax s) (λ h _.
+    (gives-refusal notificationForm s _ _ _ (syntax s) (λ h _.
     gives-row _ 30 (action s) (λ e30.
     gives-row _ 31 (hash s) (λ e31.
     gives-row _ 32 (unfilled-tells device s b) (λ e32.

@@ -97,7 +97,7 @@ pub record Stands (s : List ℕ) (p : Part) : Type 0 where
   pub front : List ℕ
   pub back : List ℕ
   pub is : s ≡ front ++ (p .bytes ++ back)
-  pub place : p .place ≡ length front
+  pub offset : p .offset ≡ length front
 
 -- of two that stand side by side, each stands
 pub stands-first : (s : List ℕ) (o : ℕ) (x y : List ℕ) → Stands s (part o (x ++ y)) → Stands s (part o x)
@@ -106,7 +106,7 @@ stands-first s o x y t =
       front = t .front;
       back = y ++ t .back;
       is = t .is ∙ ap (λ (l : List ℕ). t .front ++ l) (append-assoc x y (t .back));
-      place = t .place;
+      offset = t .offset;
     }
 
 pub stands-second : (s : List ℕ) (o : ℕ) (x y : List ℕ) → Stands s (part o (x ++ y)) → Stands s (part (o + length x) y)
@@ -115,7 +115,7 @@ stands-second s o x y t =
       front = t .front ++ x;
       back = t .back;
       is = t .is ∙ ap (λ (l : List ℕ). t .front ++ l) (append-assoc x y (t .back)) ∙ sym (append-assoc (t .front) x (y ++ t .back));
-      place = ap (λ (n : ℕ). n + length x) (t .place) ∙ sym (length-append (t .front) x);
+      offset = ap (λ (n : ℕ). n + length x) (t .offset) ∙ sym (length-append (t .front) x);
     }
 
 pub placed-stands : (s : List ℕ) (o : ℕ) (bs : List (List ℕ)) (left : List ℕ) (p : Part)
@@ -134,7 +134,7 @@ placed-stands s o (b ∷ bs) left p t m =
 
 -- without its first bytes a part stands as many places later
 pub stands-behind : (s : List ℕ) (p : Part) (k : ℕ) → k ≤ length (p .bytes) → Stands s p
-    → Stands s (part (p .place + k) (drop k (p .bytes)))
+    → Stands s (part (p .offset + k) (drop k (p .bytes)))
 stands-behind s p k h t =
     record {
       front = t .front ++ take k (p .bytes);
@@ -142,7 +142,7 @@ stands-behind s p k h t =
       is = t .is ∙ ap (λ (l : List ℕ). t .front ++ (l ++ t .back)) (sym (take-append-drop k (p .bytes)))
           ∙ ap (λ (l : List ℕ). t .front ++ l) (append-assoc (take k (p .bytes)) (drop k (p .bytes)) (t .back))
           ∙ sym (append-assoc (t .front) (take k (p .bytes)) (drop k (p .bytes) ++ t .back));
-      place = omega (arith, t .place, length-append (t .front) (take k (p .bytes)), length-take-le k (p .bytes) h);
+      offset = omega (arith, t .offset, length-append (t .front) (take k (p .bytes)), length-take-le k (p .bytes) h);
     }
 
 -- a part that stands in the first c bytes stands in all of them
@@ -154,12 +154,12 @@ stands-longer s c p t =
       is = sym (take-append-drop c s) ∙ ap (λ (l : List ℕ). l ++ drop c s) (t .is)
           ∙ append-assoc (t .front) (p .bytes ++ t .back) (drop c s)
           ∙ ap (λ (l : List ℕ). t .front ++ l) (append-assoc (p .bytes) (t .back) (drop c s));
-      place = t .place;
+      offset = t .offset;
     }
 
 -- its bytes are those that stand at its place
-pub stands-bytes : (s : List ℕ) (p : Part) (n : ℕ) → length (p .bytes) ≡ n → Stands s p → take n (drop (p .place) s) ≡ p .bytes
+pub stands-bytes : (s : List ℕ) (p : Part) (n : ℕ) → length (p .bytes) ≡ n → Stands s p → take n (drop (p .offset) s) ≡ p .bytes
 stands-bytes s p n e t =
-    ap (λ (l : List ℕ). take n (drop (p .place) l)) (t .is)
-    ∙ ap (λ (l : List ℕ). take n l) (drop-at (t .front) (p .bytes ++ t .back) (p .place) (sym (t .place)))
+    ap (λ (l : List ℕ). take n (drop (p .offset) l)) (t .is)
+    ∙ ap (λ (l : List ℕ). take n l) (drop-at (t .front) (p .bytes ++ t .back) (p .offset) (sym (t .offset)))
     ∙ take-at (p .bytes) (t .back) n e

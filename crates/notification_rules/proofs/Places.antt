@@ -62,7 +62,7 @@ rest-stands h k g =
       front = take k h;
       back = [];
       is = sym (take-append-drop k h) ∙ ap (λ (b : List ℕ). take k h ++ b) (nothing-more (drop k h));
-      place = sym (length-take-le k h g);
+      offset = sym (length-take-le k h g);
     }
 
 no-pieces : (h : List ℕ) (k : ℕ) → length h ≤ k → cutOf loopSize (drop k h) .pieces ≡ []
@@ -100,17 +100,17 @@ pub record NineBytes (s : List ℕ) (d : Part) : Type 0 where
 pub nine-in : (s : List ℕ) (l d : Part) → Sound s → List·Memᴰ l (loopsOf s) → located (descriptorsOf l) ≡ at d → NineBytes s d
 unfolding descriptorsOf loopsOf known descriptorSize
 nine-in s l d ok m e =
-    let o = located-one (placed (l .place + 2) (descriptorPieces (content (l .bytes)))) d e in
+    let o = located-one (placed (l .offset + 2) (descriptorPieces (content (l .bytes)))) d e in
     let t = loop-stands s l m in
     let c = cutOf descriptorSize (content (l .bytes)) in
-    let f : Stands (checked s) (part (l .place + 2) (flatten (c .pieces) ++ c .left)) =
+    let f : Stands (checked s) (part (l .offset + 2) (flatten (c .pieces) ++ c .left)) =
     rw (rejoined descriptorSize (content (l .bytes))) (stands-behind (checked s) l 2 (t .1) (t .0)) in
     let k = every-one (λ y. known (content y)) (loopCut s .pieces) (l .bytes) (ok .right)
     (placed-member 12 (loopCut s .pieces) l m) in
-    let u = placed-member (l .place + 2) (c .pieces) d (o .0) in
+    let u = placed-member (l .offset + 2) (c .pieces) d (o .0) in
     let n = nine-long (tag (d .bytes)) (bodyLength (d .bytes)) (o .1)
     (every-one (λ y. rightLength (tag y) (bodyLength y)) (c .pieces) (d .bytes) k u) in
     record {
-      stands = stands-longer s (crcOffset s) d (placed-stands (checked s) (l .place + 2) (c .pieces) (c .left) d f (o .0));
+      stands = stands-longer s (crcOffset s) d (placed-stands (checked s) (l .offset + 2) (c .pieces) (c .left) d f (o .0));
       whole = omega (arith, descriptor-long (content (l .bytes)) (d .bytes) u, n);
     }

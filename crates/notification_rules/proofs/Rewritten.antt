@@ -18,7 +18,7 @@ use Rattle.wire.specs.Choice.{pick, both}
 use Rattle.wire.proofs.Bytes.{bytesFrom, take-bytes}
 use Rattle.wire.proofs.Choice.{both-true, none-first, none-parts}
 use Rattle.rules.specs.Section.{crcOffset, currentNextIndicator, lastSectionNumber, sealed, sectionLength, sectionNumber, sectionSyntaxIndicator, tableId}
-use Rattle.rules.specs.Check.{fault, faultLines}
+use Rattle.rules.specs.Check.{sharedRefusal, sharedLines}
 use Rattle.rules.proofs.Read.{sealed-is}
 use Rattle.notification_rules.specs.Cut.{Size, cutOf, isNil, odd}
 use Rattle.notification_rules.specs.Loop.{actionType, body, bodyLength, content, descriptorPieces, descriptorSize, filled, loopCut, loopSize, platformIdHash, tag}
@@ -27,8 +27,8 @@ use Rattle.notification_rules.specs.Notice.{fits, known, misfit, notific
 use Rattle.notification_rules.specs.Format.{Descriptor, masked, ranges, location, other, Loop, Notification, tagOf, rangeWritten, nineWritten, bodyWritten, descriptorWritten, contentWritten, loopWritten, loopsWritten, headWritten, notificationWritten, Held, Fits, FitsLoop, Conforms, Written}
 use Rattle.notification_rules.specs.Meaning.{byTurns, Filled, Short}
 use Rattle.notification_rules.proofs.Parts.{descriptor-long, every-one, loop-long, rejoined}
-use Rattle.rules.proofs.Check.{fault-numbered}
-use Rattle.rules.proofs.Sound.{Faultless, faultless}
+use Rattle.rules.proofs.Check.{shared-numbered}
+use Rattle.rules.proofs.Sound.{Unrefused, unrefused}
 use Rattle.notification_rules.proofs.Sound.{platform-numbered, sound}
 use Rattle.notification_rules.proofs.Taken.{every-filled, loopsIn, loops-all, loops-back, loops-in, turns-odd}
 
@@ -353,19 +353,19 @@ filled-exactly s b = (there, back)
 
 -- ---- what each of 12 to 18, 30 and 31 says
 record Head (s : List ℕ) : Type 0 where
-  shared : Faultless notificationForm s
+  shared : Unrefused notificationForm s
   action : actionType s ≡ 0x01
   hash : platformIdHash s ≡ bitXor (bitXor (byteAt s 8) (byteAt s 9)) (byteAt s 10)
 
 head : (s : List ℕ) → refusal s ≡ 0 → Head s
-unfolding refusal fault platformLines otherAction wrongHash
+unfolding refusal sharedRefusal platformLines otherAction wrongHash
 head s p =
-    let lines = none-parts (faultLines notificationForm s) (platformLines s ++ loopLines s) (fault-numbered notificationForm s) p in
+    let lines = none-parts (sharedLines notificationForm s) (platformLines s ++ loopLines s) (shared-numbered notificationForm s) p in
     let plat = none-parts (platformLines s) (loopLines s) (platform-numbered s) (lines .1) in
     let t30 = none-first _ _ (omega arith) (plat .0) in
     let t31 = none-first _ _ (omega arith) (t30 .1) in
     record {
-      shared = faultless notificationForm s (lines .0);
+      shared = unrefused notificationForm s (lines .0);
       action = eqb-true _ _ (not-false _ (t30 .0));
       hash = eqb-true _ _ (not-false _ (t31 .0));
     }

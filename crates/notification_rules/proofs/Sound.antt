@@ -7,8 +7,8 @@ use mathlib.Core.List.{List, _++_}
 use borrow.Author.Tests.{not-false}
 use Rattle.wire.specs.Choice.{both, firstOf, without}
 use Rattle.wire.proofs.Choice.{none-first, none-parts}
-use Rattle.rules.specs.Check.{faultLines}
-use Rattle.rules.proofs.Check.{fault-numbered}
+use Rattle.rules.specs.Check.{sharedLines}
+use Rattle.rules.proofs.Check.{shared-numbered}
 use Rattle.notification_rules.specs.Cut.{every}
 use Rattle.notification_rules.specs.Loop.{loopCut, content}
 use Rattle.notification_rules.specs.Notice.{notificationForm, platformLines, loopLines, misfit, otherLength, fits, known, refusal}
@@ -25,7 +25,7 @@ pub sound : (s : List ℕ) → refusal s ≡ 0 → Sound s
 unfolding refusal loopLines misfit otherLength
 sound s h =
     let p : firstOf (platformLines s ++ loopLines s) ≡ 0 =
-    none-parts (faultLines notificationForm s) (platformLines s ++ loopLines s) (fault-numbered notificationForm s) h .1 in
+    none-parts (sharedLines notificationForm s) (platformLines s ++ loopLines s) (shared-numbered notificationForm s) h .1 in
     let q : firstOf (loopLines s) ≡ 0 = none-parts (platformLines s) (loopLines s) (platform-numbered s) p .1 in
     let t32 = none-first _ _ (omega arith) q in
     let t33 = none-first _ _ (omega arith) (t32 .1) in

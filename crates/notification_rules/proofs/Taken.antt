@@ -15,7 +15,7 @@ use Rattle.wire.proofs.Bytes.{length-bytesOf, numberAt-bytesOf}
 use Rattle.wire.proofs.Choice.{yes-both, not-either, not-first}
 use Rattle.rules.specs.Crc.{crc32}
 use Rattle.rules.specs.Section.{sealed, tableId, sectionSyntaxIndicator, sectionLength, currentNextIndicator, sectionNumber, lastSectionNumber}
-use Rattle.rules.specs.Check.{tooShort, otherTable, wrongLength, wrongSyntax, wrongCrc, notCurrent, outOfOrder, formLines, orderLines, faultLines}
+use Rattle.rules.specs.Check.{tooShort, otherTable, wrongLength, wrongSyntax, wrongCrc, notCurrent, outOfOrder, formLines, orderLines, sharedLines}
 use Rattle.rules.proofs.Written.{sealed-length, sealed-right}
 use Rattle.notification_rules.specs.Cut.{Cut, cutOf, every, odd}
 use Rattle.notification_rules.specs.Loop.{actionType, platformIdHash, content, tag, bodyLength, descriptorSize, loopSize, loopCut, filled}
@@ -277,7 +277,7 @@ module _ (n : Notification) (t : Conforms n) where
   no33 = rw (loops-cut, every-known all fit)
 
 pub written-is-taken : (n : Notification) → Conforms n → refusal (notificationWritten n) ≡ 0
-unfolding refusal faultLines formLines orderLines platformLines loopLines firstOf
+unfolding refusal sharedLines formLines orderLines platformLines loopLines firstOf
 written-is-taken n t =
     sym (not-first 12 _ (no12 n t) (not-first 13 _ (no13 n t) (not-first 14 _ (no14 n t) (not-first 15 _ (no15 n t)
     (not-first 16 _ (no16 n t) (not-first 17 _ (no17 n t) (not-first 18 _ (no18 n t) (not-first 30 _ (no30 n t)

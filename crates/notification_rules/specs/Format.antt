@@ -202,7 +202,7 @@ pub record Answer : Type 0 where
 
 -- "3 found, with the nine bytes, or 4 nobody. All but 3 hand back an empty part"
 abbrev pub foundAt : Part → Answer
-foundAt p = record { notice = Found (p .place); number = 3; given = p }
+foundAt p = record { notice = Found (p .offset); number = 3; given = p }
 
 abbrev pub foundNobody : Answer
 foundNobody = record { notice = Nobody; number = 4; given = part 0 [] }
@@ -222,7 +222,7 @@ answerTo device n =
 pub record Gives (device : Address) (s : List ℕ) (x : Answer) : Type 0 where
   pub notice : noticeOf device s ≡ x .notice
   pub number : noticeNumber (noticeOf device s) ≡ x .number
-  pub place : noticePlace (noticeOf device s) ≡ x .given .place
+  pub offset : noticePlace (noticeOf device s) ≡ x .given .offset
   pub given : partOf s (noticeOf device s) ≡ x .given
 
 -- what is written is answered as its pairs say

@@ -54,7 +54,7 @@ filled b = isNil (cutOf descriptorSize b .left)
 
 -- the descriptors of a loop, each at its place
 unfoldable pub descriptorsOf : Part → List Part
-descriptorsOf l = placed (l .place + 2) (descriptorPieces (content (l .bytes)))
+descriptorsOf l = placed (l .offset + 2) (descriptorPieces (content (l .bytes)))
 
 abbrev pub tag : List ℕ → ℕ
 tag d = byteAt d 0

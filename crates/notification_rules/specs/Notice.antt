@@ -12,7 +12,7 @@ use Rattle.wire.specs.Bytes.{byteAt}
 use Rattle.wire.specs.Choice.{pick, both, Line, line, firstOf}
 use Rattle.rules.specs.declared.Address.{Address}
 use Rattle.rules.specs.declared.Form.{Form}
-use Rattle.rules.specs.Check.{faultLines}
+use Rattle.rules.specs.Check.{sharedLines}
 use Rattle.notification_rules.specs.declared.Notice.{Notice}
 use Rattle.notification_rules.specs.declared.Notice.the-variants.{Found, Nobody, Refused}
 use Rattle.wire.specs.Part.{Part, part, Is}
@@ -58,12 +58,12 @@ loopLines s = line 32 (misfit s) ∷ line 33 (otherLength s) ∷ []
 
 -- the first of 12 to 18 and 30 to 33 that applies, else 0
 unfoldable pub refusal : List ℕ → ℕ
-refusal s = firstOf (faultLines notificationForm s ++ (platformLines s ++ loopLines s))
+refusal s = firstOf (sharedLines notificationForm s ++ (platformLines s ++ loopLines s))
 
 -- ---- found, with the place of the nine bytes behind tag and length, or nobody
 unfoldable pub found : Location → Notice
 found nowhere = Nobody
-found (at d) = Found (d .place + 2)
+found (at d) = Found (d .offset + 2)
 
 unfoldable pub chosen : Part → Option Pair → Notice
 chosen platform none = Nobody

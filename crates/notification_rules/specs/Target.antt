@@ -68,7 +68,7 @@ pub data Cover : Type 0 where
 
 unfoldable pub coverFrom : Address → List Part → Cover
 coverFrom device [] = nobody
-coverFrom device (d ∷ ds) = pick (covers device (d .bytes)) (by (d .place)) (coverFrom device ds)
+coverFrom device (d ∷ ds) = pick (covers device (d .bytes)) (by (d .offset)) (coverFrom device ds)
 
 unfoldable pub coverOf : Address → Part → Cover
 coverOf device target = pick (isNil (content (target .bytes))) (by 0) (coverFrom device (descriptorsOf target))

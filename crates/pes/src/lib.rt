@@ -8,7 +8,7 @@ ghost use mathlib.Core.Path.{_≡_};
 ghost use Prim.Native.Nat.{_+_};
 ghost use Rattle.wire.specs.Bytes.{Reads};
 ghost use Rattle.wire.specs.Part.{Is};
-ghost use Rattle.pes_rules.specs.Packet.{ptsExtensionFlag, outputDataRateFlag, pesDataPacketHeaderLength, flagged, ptsExtension, ratePlace, outputDataRate, privatePlace, dataPlace, wrongSize, otherIdentifier, wrongFlags, wrongHeaderLength, fault, refused, taken, readOf, dataPart};
+ghost use Rattle.pes_rules.specs.Packet.{ptsExtensionFlag, outputDataRateFlag, pesDataPacketHeaderLength, flagged, ptsExtension, rateOffset, outputDataRate, privateOffset, dataOffset, wrongSize, otherIdentifier, wrongFlags, wrongHeaderLength, refusal, refused, taken, readOf, dataPart};
 
 fn pts_extension_flag(packet: &[u8]) -> bool
     ensures { λ r. ⌜ r ≡ ptsExtensionFlag (now (packet .entry)) ⌝ }
@@ -43,8 +43,8 @@ fn pts_extension(packet: &[u8]) -> u16
     0
 }
 
-fn rate_place(packet: &[u8]) -> usize
-    ensures { λ r. ⌜ Reads (ratePlace (now (packet .entry))) 6 r ⌝ }
+fn rate_offset(packet: &[u8]) -> usize
+    ensures { λ r. ⌜ Reads (rateOffset (now (packet .entry))) 6 r ⌝ }
 {
     3 + flagged(pts_extension_flag(packet), 2)
 }
@@ -53,19 +53,19 @@ fn output_data_rate(packet: &[u8]) -> u32
     ensures { λ r. ⌜ r ≡ outputDataRate (now (packet .entry)) ⌝ }
 {
     if output_data_rate_flag(packet) {
-        return (wire::u32_at(packet, rate_place(packet)) % 268435456) as u32;
+        return (wire::u32_at(packet, rate_offset(packet)) % 268435456) as u32;
     }
     0
 }
 
-fn private_place(packet: &[u8]) -> usize
-    ensures { λ r. ⌜ r ≡ privatePlace (now (packet .entry)) ⌝ }
+fn private_offset(packet: &[u8]) -> usize
+    ensures { λ r. ⌜ r ≡ privateOffset (now (packet .entry)) ⌝ }
 {
-    rate_place(packet) + flagged(output_data_rate_flag(packet), 4)
+    rate_offset(packet) + flagged(output_data_rate_flag(packet), 4)
 }
 
-fn data_place(packet: &[u8]) -> usize
-    ensures { λ r. ⌜ r ≡ dataPlace (now (packet .entry)) ⌝ }
+fn data_offset(packet: &[u8]) -> usize
+    ensures { λ r. ⌜ r ≡ dataOffset (now (packet .entry)) ⌝ }
 {
     3 + pes_data_packet_header_length(packet)
 }
@@ -97,13 +97,13 @@ fn wrong_flags(packet: &[u8]) -> bool
 fn wrong_header_length(packet: &[u8]) -> bool
     ensures { λ r. ⌜ r ≡ wrongHeaderLength (now (packet .entry)) ⌝ }
 {
-    let place = data_place(packet);
-    either(place < private_place(packet), packet.len() < place)
+    let offset = data_offset(packet);
+    either(place < private_offset(packet), packet.len() < place)
 }
 
 // The first of 40 to 43 that applies, else 0.
-fn fault(packet: &[u8]) -> u8
-    ensures { λ r. ⌜ r ≡ fault (now (packet .entry)) ⌝ }
+fn refusal(packet: &[u8]) -> u8
+    ensures { λ r. ⌜ r ≡ refusal (now (packet .entry)) ⌝ }
 {
     let header_length = first(wrong_header_length(packet), 43, 0);
     let flags = first(wrong_flags(packet), 42, header_length);
@@ -134,7 +134,7 @@ fn taken(packet: &[u8]) -> Reading
         rated: output_data_rate_flag(packet),
         extension: pts_extension(packet),
         rate: output_data_rate(packet),
-        start: data_place(packet),
+        start: data_offset(packet),
         end: packet.len(),
     }
 }
@@ -143,7 +143,7 @@ fn taken(packet: &[u8]) -> Reading
 pub fn read(packet: &[u8]) -> Reading
     ensures { λ r. ⌜ r ≡ readOf (now (packet .entry)) ⌝ }
 {
-    let number = fault(packet);
+    let number = refusal(packet);
     if number != 0 {
         return refused(number);
     }

@@ -10,7 +10,7 @@ use borrow.Author.Tests.{eq-eqb, eqb-true, ltb-false, ne-eqb}
 use Rattle.wire.specs.Choice.{pick, first, firstOf}
 use Rattle.wire.proofs.Choice.{either-false}
 use Rattle.pes_rules.specs.declared.Reading.{Reading}
-use Rattle.pes_rules.specs.Packet.{dataPlace, wrongSize, otherIdentifier, wrongFlags, wrongHeaderLength, fault, refused, taken, readOf}
+use Rattle.pes_rules.specs.Packet.{dataOffset, wrongSize, otherIdentifier, wrongFlags, wrongHeaderLength, refusal, refused, taken, readOf}
 
 -- ---- the table
 pub record None (s : List ℕ) : Type 0 where
@@ -29,45 +29,45 @@ unfolding first
 first-past true n rest h e = absurd (h e)
 first-past false n rest h e = (refl, e)
 
-not-five : (s : List ℕ) → fault s ≡ 5 → ⊥
+not-five : (s : List ℕ) → refusal s ≡ 5 → ⊥
 unfolding firstOf
 not-five s =
     first-not _ _ _ 5 (λ e. omega arith) (first-not _ _ _ 5 (λ e. omega arith)
     (first-not _ _ _ 5 (λ e. omega arith) (first-not _ _ 0 5 (λ e. omega arith) (λ e. omega arith))))
 
-pub no-fault : (s : List ℕ) → fault s ≡ 0 → None s
+pub no-refusal : (s : List ℕ) → refusal s ≡ 0 → None s
 unfolding firstOf
-no-fault s e =
+no-refusal s e =
     let a = first-past _ _ _ (λ z. omega arith) e in
     let b = first-past _ _ _ (λ z. omega arith) (a .1) in
     let c = first-past _ _ _ (λ z. omega arith) (b .1) in
     let d = first-past _ _ 0 (λ z. omega arith) (c .1) in
     record { no40 = a .0; no41 = b .0; no42 = c .0; no43 = d .0 }
 
-pub fault-none : (s : List ℕ) → None s → fault s ≡ 0
+pub refusal-none : (s : List ℕ) → None s → refusal s ≡ 0
 unfolding firstOf first
-fault-none s n = rw (n .no40, n .no41, n .no42, n .no43)
+refusal-none s n = rw (n .no40, n .no41, n .no42, n .no43)
 
 -- ---- the answer
-pub answered : (s : List ℕ) → readOf s .answer ≡ 5 → fault s ≡ 0
+pub answered : (s : List ℕ) → readOf s .answer ≡ 5 → refusal s ≡ 0
 unfolding readOf pick
-answered s = go (eqb (fault s) 0) refl
+answered s = go (eqb (refusal s) 0) refl
   where
-    go : (t : Bool) → eqb (fault s) 0 ≡ t → pick t (taken s) (refused (fault s)) .answer ≡ 5 → fault s ≡ 0
-    go true e h = eqb-true (fault s) 0 e
+    go : (t : Bool) → eqb (refusal s) 0 ≡ t → pick t (taken s) (refused (refusal s)) .answer ≡ 5 → refusal s ≡ 0
+    go true e h = eqb-true (refusal s) 0 e
     go false e h = absurd (not-five s h)
 
-pub read-taken : (s : List ℕ) → fault s ≡ 0 → readOf s ≡ taken s
+pub read-taken : (s : List ℕ) → refusal s ≡ 0 → readOf s ≡ taken s
 unfolding readOf pick
-read-taken s e = rw (eq-eqb (fault s) 0 e)
+read-taken s e = rw (eq-eqb (refusal s) 0 e)
 
-pub read-refused : (s : List ℕ) → (fault s ≡ 0 → ⊥) → readOf s ≡ refused (fault s)
+pub read-refused : (s : List ℕ) → (refusal s ≡ 0 → ⊥) → readOf s ≡ refused (refusal s)
 unfolding readOf pick
-read-refused s h = rw (ne-eqb (fault s) 0 h)
+read-refused s h = rw (ne-eqb (refusal s) 0 h)
 
 -- ---- the data's place
-pub within : (s : List ℕ) → None s → dataPlace s ≤ length s
-within s n = ltb-false (length s) (dataPlace s) (either-false _ _ (n .no43) .1)
+pub within : (s : List ℕ) → None s → dataOffset s ≤ length s
+within s n = ltb-false (length s) (dataOffset s) (either-false _ _ (n .no43) .1)
 
 pub record Within (start end : ℕ) (s : List ℕ) : Type 0 where
   pub order : start ≤ end
@@ -75,9 +75,9 @@ pub record Within (start end : ℕ) (s : List ℕ) : Type 0 where
 
 pub data-within : (s : List ℕ) (r : Reading) → r ≡ readOf s → Within (r .start) (r .end) s
 unfolding readOf pick
-data-within s r e = rw e (go (eqb (fault s) 0) refl)
+data-within s r e = rw e (go (eqb (refusal s) 0) refl)
   where
-    go : (t : Bool) → eqb (fault s) 0 ≡ t
-        → Within (pick t (taken s) (refused (fault s)) .start) (pick t (taken s) (refused (fault s)) .end) s
-    go true z = record { order = within s (no-fault s (eqb-true (fault s) 0 z)); inside = omega arith }
+    go : (t : Bool) → eqb (refusal s) 0 ≡ t
+        → Within (pick t (taken s) (refused (refusal s)) .start) (pick t (taken s) (refused (refusal s)) .end) s
+    go true z = record { order = within s (no-refusal s (eqb-true (refusal s) 0 z)); inside = omega arith }
     go false z = record { order = omega arith; inside = omega arith }

@@ -9,7 +9,7 @@ use mathlib.Core.Logic.{inl}
 use Rattle.wire.specs.Bytes.{bytesOf}
 use Rattle.wire.specs.Part.{part}
 use Rattle.pes_rules.specs.declared.Reading.{Reading}
-use Rattle.pes_rules.specs.Packet.{fault, readOf, refused}
+use Rattle.pes_rules.specs.Packet.{refusal, readOf, refused}
 use Rattle.pes_rules.specs.Written.{extensionField, flagsByte, Gives, optionalFields, OthersGiveNothing, packetOf, rateField, SampleIsWritten, TakenExactly, zeros}
 use Rattle.pes_rules.proofs.Answer.{read-refused, read-taken}
 use Rattle.wire.proofs.Bytes.{cons-bytes}
@@ -23,13 +23,13 @@ taken-exactly s h = (
 )
 
 pub others-give-nothing : OthersGiveNothing
-others-give-nothing s h = go (ℕ-discrete (fault s) 0)
+others-give-nothing s h = go (ℕ-discrete (refusal s) 0)
   where
-    go : Dec (fault s ≡ 0) → Gives s (zeros (readOf s .answer)) (part 0 [])
+    go : Dec (refusal s ≡ 0) → Gives s (zeros (readOf s .answer)) (part 0 [])
     go (yes e) = absurd (h (ap (λ (r : Reading). r .answer) (read-taken s e)))
     go (no e) =
-        let r : readOf s ≡ refused (fault s) = read-refused s e in
-        let z : zeros (fault s) ≡ zeros (readOf s .answer) = ap (λ (x : Reading). zeros (x .answer)) (sym r) in
+        let r : readOf s ≡ refused (refusal s) = read-refused s e in
+        let z : zeros (refusal s) ≡ zeros (readOf s .answer) = ap (λ (x : Reading). zeros (x .answer)) (sym r) in
         record { reading = r ∙ z; given = ap (λ (x : Reading). part (x .start) (slice (x .start) (x .end) s)) r }
 
 pub sample-is-written : SampleIsWritten

@@ -12,16 +12,16 @@ use Rattle.wire.specs.Choice.{pick, both, firstOf, without}
 use Rattle.wire.proofs.Meaning.{gives-last, gives-row, or-else, orElse, Tells, tells-both, tells-either, tells-eq, tells-lt, tells-not}
 use Rattle.pes_rules.specs.declared.Reading.{Reading}
 use Rattle.pes_rules.specs.Meaning.{PacketMeans}
-use Rattle.pes_rules.specs.Packet.{dataPlace, faultLines, flagged, outputDataRateFlag, privatePlace, ptsExtensionFlag, readOf, refused, taken}
+use Rattle.pes_rules.specs.Packet.{dataOffset, refusalLines, flagged, outputDataRateFlag, privateOffset, ptsExtensionFlag, readOf, refused, taken}
 
 answer-pick : (t : Bool) (o r : Reading) → pick t o r .answer ≡ pick t (o .answer) (r .answer)
 unfolding pick
 answer-pick true o r = refl
 answer-pick false o r = refl
 
-number-read : (s : List ℕ) → readOf s .answer ≡ orElse (faultLines s) 5
+number-read : (s : List ℕ) → readOf s .answer ≡ orElse (refusalLines s) 5
 unfolding readOf without both
-number-read s = answer-pick (eqb (firstOf (faultLines s)) 0) (taken s) (refused (firstOf (faultLines s))) ∙ or-else (faultLines s) 5 refl
+number-read s = answer-pick (eqb (firstOf (refusalLines s)) 0) (taken s) (refused (firstOf (refusalLines s))) ∙ or-else (refusalLines s) 5 refl
 
 -- ---- flags
 unflagged : (x : ℕ) → x < 2 → Tells (not (eqb x 1)) (x ≡ 0)
@@ -39,18 +39,18 @@ flagged-is x n h = go (eqb x 1) refl
     go true e = rw (eqb-true x 1 e) (omega arith)
     go false e = let other : x ≡ 1 → ⊥ = eqb-false x 1 e in let z : x ≡ 0 = omega arith in rw z (omega arith)
 
-header-tells : (s : List ℕ) → Tells (ltb (dataPlace s) (privatePlace s)) (bits 3 0 (byteAt s 2) < 2 * bit 7 (byteAt s 2) + 4 * bit 6 (byteAt s 2))
+header-tells : (s : List ℕ) → Tells (ltb (dataOffset s) (privateOffset s)) (bits 3 0 (byteAt s 2) < 2 * bit 7 (byteAt s 2) + 4 * bit 6 (byteAt s 2))
 header-tells s =
     let e2 : flagged (ptsExtensionFlag s) 2 ≡ 2 * bit 7 (byteAt s 2) = flagged-is (bit 7 (byteAt s 2)) 2 (omega arith) in
     let e4 : flagged (outputDataRateFlag s) 4 ≡ 4 * bit 6 (byteAt s 2) = flagged-is (bit 6 (byteAt s 2)) 4 (omega arith) in (
-      λ p. let l : dataPlace s < privatePlace s = ltb-true _ _ p in omega (arith, e2, e4),
-      λ h. let l : dataPlace s < privatePlace s = omega (arith, e2, e4) in lt-ltb _ _ l,
+      λ p. let l : dataOffset s < privateOffset s = ltb-true _ _ p in omega (arith, e2, e4),
+      λ h. let l : dataOffset s < privateOffset s = omega (arith, e2, e4) in lt-ltb _ _ l,
     )
 
-beyond-tells : (s : List ℕ) → Tells (ltb (length s) (dataPlace s)) (length s < 3 + bits 3 0 (byteAt s 2))
+beyond-tells : (s : List ℕ) → Tells (ltb (length s) (dataOffset s)) (length s < 3 + bits 3 0 (byteAt s 2))
 beyond-tells s = (
-  λ p. let l : length s < dataPlace s = ltb-true _ _ p in omega arith,
-  λ h. let l : length s < dataPlace s = omega arith in lt-ltb _ _ l,
+  λ p. let l : length s < dataOffset s = ltb-true _ _ p in omega arith,
+  λ h. let l : length s < dataOffset s = omega arith in lt-ltb _ _ l,
 )
 
 pub packet-means : PacketMeans

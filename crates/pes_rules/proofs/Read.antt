@@ -15,9 +15,9 @@ use Rattle.wire.specs.Bytes.{Bytes, byteAt, bits, numberAt, bytesOf}
 use Rattle.wire.proofs.Bytes.{bytesOf-numberAt, numberAt-lt}
 use Rattle.wire.specs.Choice.{pick, both, either}
 use Rattle.wire.proofs.Choice.{either-false, never}
-use Rattle.pes_rules.specs.Packet.{dataIdentifier, subStreamId, ptsExtensionFlag, outputDataRateFlag, pesDataPacketHeaderLength, flagged, ptsExtension, ratePlace, outputDataRate, privatePlace, dataPlace, readOf}
+use Rattle.pes_rules.specs.Packet.{dataIdentifier, subStreamId, ptsExtensionFlag, outputDataRateFlag, pesDataPacketHeaderLength, flagged, ptsExtension, rateOffset, outputDataRate, privateOffset, dataOffset, readOf}
 use Rattle.pes_rules.specs.Written.{Conforms, extensionField, flagsByte, optionalFields, packetOf, rateField, Stream, Values, Written}
-use Rattle.pes_rules.proofs.Answer.{answered, no-fault, None, within}
+use Rattle.pes_rules.proofs.Answer.{answered, no-refusal, None, within}
 use Rattle.pes_rules.proofs.Bytes.{slice-bytes, slice-is}
 
 -- the values of a packet that no line applies to
@@ -31,10 +31,10 @@ takenValues s =
       reserved2 = bits 5 4 (byteAt s 2);
       reserved7 = flagged (ptsExtensionFlag s) (bits 15 9 (numberAt 2 s 3));
       ptsExtension = ptsExtension s;
-      reserved4 = flagged (outputDataRateFlag s) (bits 31 28 (numberAt 4 s (ratePlace s)));
+      reserved4 = flagged (outputDataRateFlag s) (bits 31 28 (numberAt 4 s (rateOffset s)));
       outputDataRate = outputDataRate s;
-      privateBytes = slice (privatePlace s) (dataPlace s) s;
-      dataBytes = slice (dataPlace s) (length s) s;
+      privateBytes = slice (privateOffset s) (dataOffset s) s;
+      dataBytes = slice (dataOffset s) (length s) s;
     }
 
 -- ---- identifier and flags
@@ -103,8 +103,8 @@ module _ (s : List ℕ) (h : Bytes s) (n : None s) where
   short : length s ≤ 65535
   short = ltb-false 65535 (length s) (either-false _ _ (n .no40) .1)
 
-  behind : privatePlace s ≤ dataPlace s
-  behind = ltb-false (dataPlace s) (privatePlace s) (either-false _ _ (n .no43) .0)
+  behind : privateOffset s ≤ dataOffset s
+  behind = ltb-false (dataOffset s) (privateOffset s) (either-false _ _ (n .no43) .0)
 
   extension-is : extensionField (takenValues s) ≡ take (flagged (ptsExtensionFlag s) 2) (drop 3 s)
   unfolding extensionField
@@ -112,21 +112,21 @@ module _ (s : List ℕ) (h : Bytes s) (n : None s) where
       let l : 3 + flagged (ptsExtensionFlag s) 2 ≤ length s = omega (arith, behind, within s n) in
       field-is (ptsExtensionFlag s) 2 3 9 (bits 15 9 (numberAt 2 s 3)) s h l (omega (arith, numberAt-lt 2 s 3 h))
 
-  rate-is : rateField (takenValues s) ≡ take (flagged (outputDataRateFlag s) 4) (drop (ratePlace s) s)
+  rate-is : rateField (takenValues s) ≡ take (flagged (outputDataRateFlag s) 4) (drop (rateOffset s) s)
   unfolding rateField
   rate-is =
-      let x : ℕ = numberAt 4 s (ratePlace s) in
-      let l : ratePlace s + flagged (outputDataRateFlag s) 4 ≤ length s = omega (arith, behind, within s n) in
-      field-is (outputDataRateFlag s) 4 (ratePlace s) 28 (bits 31 28 x) s h l (omega (arith, numberAt-lt 4 s (ratePlace s) h))
+      let x : ℕ = numberAt 4 s (rateOffset s) in
+      let l : rateOffset s + flagged (outputDataRateFlag s) 4 ≤ length s = omega (arith, behind, within s n) in
+      field-is (outputDataRateFlag s) 4 (rateOffset s) 28 (bits 31 28 x) s h l (omega (arith, numberAt-lt 4 s (rateOffset s) h))
 
   optional-is : optionalFields (takenValues s) ≡ take (pesDataPacketHeaderLength s) (drop 3 s)
   unfolding optionalFields
   optional-is =
       let a : ℕ = flagged (ptsExtensionFlag s) 2 in
       let b : ℕ = flagged (outputDataRateFlag s) 4 in
-      let k : a + (b + (dataPlace s - privatePlace s)) ≡ pesDataPacketHeaderLength s = omega (arith, behind) in
-      rw (extension-is, rate-is, slice-is (privatePlace s) (dataPlace s) s)
-      (stretches s a b (dataPlace s - privatePlace s) ∙ ap (λ (m : ℕ). take m (drop 3 s)) k)
+      let k : a + (b + (dataOffset s - privateOffset s)) ≡ pesDataPacketHeaderLength s = omega (arith, behind) in
+      rw (extension-is, rate-is, slice-is (privateOffset s) (dataOffset s) s)
+      (stretches s a b (dataOffset s - privateOffset s) ∙ ap (λ (m : ℕ). take m (drop 3 s)) k)
 
   header-is : length (optionalFields (takenValues s)) ≡ pesDataPacketHeaderLength s
   header-is =
@@ -141,8 +141,8 @@ module _ (s : List ℕ) (h : Bytes s) (n : None s) where
       let f6 : cond (outputDataRateFlag s) 64 0 ≡ b / 64 % 2 * 64 = flag-bit (b / 64 % 2) 64 (omega arith) in
       rw (f7, f6, header-is) (byte-parts b (h 2))
 
-  data-is : slice (dataPlace s) (length s) s ≡ drop (pesDataPacketHeaderLength s) (drop 3 s)
-  data-is = ap (drop (dataPlace s)) (take-length s) ∙ sym (drop-drop (pesDataPacketHeaderLength s) 3 s)
+  data-is : slice (dataOffset s) (length s) s ≡ drop (pesDataPacketHeaderLength s) (drop 3 s)
+  data-is = ap (drop (dataOffset s)) (take-length s) ∙ sym (drop-drop (pesDataPacketHeaderLength s) 3 s)
 
   written-is : packetOf (takenValues s) ≡ s
   unfolding packetOf
@@ -158,14 +158,14 @@ module _ (s : List ℕ) (h : Bytes s) (n : None s) where
         header = omega (arith, header-is);
         beforeExtension = flagged-lt (ptsExtensionFlag s) (bits 15 9 (numberAt 2 s 3)) 7 (omega arith);
         extension = flagged-lt (ptsExtensionFlag s) (numberAt 2 s 3 % 2 ^ 9) 9 (omega arith);
-        beforeRate = flagged-lt (outputDataRateFlag s) (bits 31 28 (numberAt 4 s (ratePlace s))) 4 (omega arith);
-        rate = flagged-lt (outputDataRateFlag s) (numberAt 4 s (ratePlace s) % 2 ^ 28) 28 (omega arith);
-        skipped = slice-bytes (privatePlace s) (dataPlace s) s h;
-        carried = slice-bytes (dataPlace s) (length s) s h;
+        beforeRate = flagged-lt (outputDataRateFlag s) (bits 31 28 (numberAt 4 s (rateOffset s))) 4 (omega arith);
+        rate = flagged-lt (outputDataRateFlag s) (numberAt 4 s (rateOffset s) % 2 ^ 28) 28 (omega arith);
+        skipped = slice-bytes (privateOffset s) (dataOffset s) s h;
+        carried = slice-bytes (dataOffset s) (length s) s h;
         size = rw written-is short;
       }
 
 pub taken-is-written : (s : List ℕ) → Bytes s → readOf s .answer ≡ 5 → Written s
 taken-is-written s h a =
-    let n = no-fault s (answered s a) in
+    let n = no-refusal s (answered s a) in
     record { values = takenValues s; conforms = conforms s h n; is = written-is s h n }

@@ -16,10 +16,10 @@ use Rattle.wire.specs.Choice.{pick, both, either}
 use Rattle.wire.specs.Part.{part}
 use Rattle.wire.proofs.Bytes.{append-bytes, bytesOf-bytes, cons-bytes, length-bytesOf, numberAt-bytesOf}
 use Rattle.wire.proofs.Choice.{not-either}
-use Rattle.pes_rules.specs.Packet.{dataIdentifier, subStreamId, ptsExtensionFlag, outputDataRateFlag, pesDataPacketHeaderLength, flagged, ptsExtension, ratePlace, outputDataRate, privatePlace, dataPlace, wrongSize, otherIdentifier, wrongFlags, wrongHeaderLength, taken, readOf}
+use Rattle.pes_rules.specs.Packet.{dataIdentifier, subStreamId, ptsExtensionFlag, outputDataRateFlag, pesDataPacketHeaderLength, flagged, ptsExtension, rateOffset, outputDataRate, privateOffset, dataOffset, wrongSize, otherIdentifier, wrongFlags, wrongHeaderLength, taken, readOf}
 use Rattle.pes_rules.specs.declared.Reading.{Reading}
 use Rattle.pes_rules.specs.Written.{Conforms, extensionField, flagsByte, optionalFields, packetOf, PacketIsBytes, rateField, readingOf, Stream, Values, WrittenIsRead}
-use Rattle.pes_rules.proofs.Answer.{fault-none, None, read-taken}
+use Rattle.pes_rules.proofs.Answer.{refusal-none, None, read-taken}
 
 -- ---- byte 2
 bit-flag : (x : ℕ) (flag : Bool) → x ≡ cond flag 1 0 → eqb x 1 ≡ flag
@@ -102,14 +102,14 @@ module _ (v : Values) (k : Conforms v) where
   unfolding rateField
   length-rate = length-field (v .outputDataRateFlag) 4 _
 
-  place-rate : ratePlace s ≡ length (front (extensionField v))
-  place-rate = rw extended (omega (arith, length-extension))
+  offset-rate : rateOffset s ≡ length (front (extensionField v))
+  offset-rate = rw extended (omega (arith, length-extension))
 
-  place-private : privatePlace s ≡ length (front (extensionField v ++ rateField v))
-  place-private = rw rated (omega (arith, place-rate, length-rate, length-append (extensionField v) (rateField v)))
+  offset-private : privateOffset s ≡ length (front (extensionField v ++ rateField v))
+  offset-private = rw rated (omega (arith, offset-rate, length-rate, length-append (extensionField v) (rateField v)))
 
-  place-data : dataPlace s ≡ length (front (optionalFields v))
-  place-data = omega (arith, header)
+  offset-data : dataOffset s ≡ length (front (optionalFields v))
+  offset-data = omega (arith, header)
 
   length-packet : length s ≡ length (front (optionalFields v)) + length (v .dataBytes)
   unfolding packetOf
@@ -123,11 +123,11 @@ module _ (v : Values) (k : Conforms v) where
       (append-assoc (extensionField v) (rateField v ++ v .privateBytes) (v .dataBytes)
       ∙ ap (λ (l : List ℕ). extensionField v ++ l) (append-assoc (rateField v) (v .privateBytes) (v .dataBytes)))
 
-  carried : slice (dataPlace s) (length s) s ≡ v .dataBytes
+  carried : slice (dataOffset s) (length s) s ≡ v .dataBytes
   unfolding packetOf
   carried =
-      ap (drop (dataPlace s)) (take-length s)
-      ∙ drop-at (front (optionalFields v)) (v .dataBytes) (dataPlace s) (sym place-data)
+      ap (drop (dataOffset s)) (take-length s)
+      ∙ drop-at (front (optionalFields v)) (v .dataBytes) (dataOffset s) (sym offset-data)
 
   -- ---- flagged fields
   abbrev behindExtension : List ℕ
@@ -146,7 +146,7 @@ module _ (v : Values) (k : Conforms v) where
   rate-low : outputDataRate s ≡ v .outputDataRate
   unfolding rateField
   rate-low =
-      rw (rated, place-rate, body)
+      rw (rated, offset-rate, body)
       (low-read 4 4 28 (v .reserved4) (v .outputDataRate) (front (extensionField v)) behindRate refl
       (v .outputDataRateFlag) (k .beforeRate) (k .rate))
 
@@ -180,9 +180,9 @@ module _ (v : Values) (k : Conforms v) where
       let l = length-append (extensionField v) (rateField v ++ v .privateBytes) in
       let m = length-append (rateField v) (v .privateBytes) in
       let o = length-append (extensionField v) (rateField v) in
-      let a : privatePlace s ≤ dataPlace s = omega (arith, place-private, place-data, l, m, o) in
-      let b : dataPlace s ≤ length s = omega (arith, place-data, length-packet) in
-      sym (not-either _ (le-ltb (dataPlace s) (privatePlace s) a) (sym (le-ltb (length s) (dataPlace s) b)))
+      let a : privateOffset s ≤ dataOffset s = omega (arith, offset-private, offset-data, l, m, o) in
+      let b : dataOffset s ≤ length s = omega (arith, offset-data, length-packet) in
+      sym (not-either _ (le-ltb (dataOffset s) (privateOffset s) a) (sym (le-ltb (length s) (dataOffset s) b)))
 
   none : None s
   none = record { no40 = no40; no41 = no41; no42 = no42; no43 = no43 }
@@ -212,7 +212,7 @@ module _ (v : Values) (k : Conforms v) where
 
 pub written-is-read : WrittenIsRead
 written-is-read v k =
-    let e : readOf (packetOf v) ≡ taken (packetOf v) = read-taken (packetOf v) (fault-none (packetOf v) (none v k)) in
+    let e : readOf (packetOf v) ≡ taken (packetOf v) = read-taken (packetOf v) (refusal-none (packetOf v) (none v k)) in
     record {
       reading = e ∙ reading v k;
       given = ap (λ (r : Reading). part (r .start) (slice (r .start) (r .end) (packetOf v))) e

@@ -40,20 +40,20 @@ abbrev pub ptsExtension : List ℕ → ℕ
 ptsExtension s = flagged (ptsExtensionFlag s) (numberAt 2 s 3 % 2 ^ 9)
 
 -- where output_data_rate stands: behind PTS_extension
-abbrev pub ratePlace : List ℕ → ℕ
-ratePlace s = 3 + flagged (ptsExtensionFlag s) 2
+abbrev pub rateOffset : List ℕ → ℕ
+rateOffset s = 3 + flagged (ptsExtensionFlag s) 2
 
 -- four bytes where flagged, the low 28 bits
 abbrev pub outputDataRate : List ℕ → ℕ
-outputDataRate s = flagged (outputDataRateFlag s) (numberAt 4 s (ratePlace s) % 2 ^ 28)
+outputDataRate s = flagged (outputDataRateFlag s) (numberAt 4 s (rateOffset s) % 2 ^ 28)
 
 -- where the private bytes begin: behind the flagged fields
-abbrev pub privatePlace : List ℕ → ℕ
-privatePlace s = ratePlace s + flagged (outputDataRateFlag s) 4
+abbrev pub privateOffset : List ℕ → ℕ
+privateOffset s = rateOffset s + flagged (outputDataRateFlag s) 4
 
 -- where the private bytes end and the data begins
-abbrev pub dataPlace : List ℕ → ℕ
-dataPlace s = 3 + pesDataPacketHeaderLength s
+abbrev pub dataOffset : List ℕ → ℕ
+dataOffset s = 3 + pesDataPacketHeaderLength s
 
 -- 40: "fewer than 3 or more than 65,535 bytes"
 abbrev pub wrongSize : List ℕ → Bool
@@ -71,16 +71,16 @@ wrongFlags s =
 
 -- 43: "H below the flagged fields or 3 + H beyond the packet": the data would begin inside the fields, or behind the packet
 abbrev pub wrongHeaderLength : List ℕ → Bool
-wrongHeaderLength s = either (ltb (dataPlace s) (privatePlace s)) (ltb (length s) (dataPlace s))
+wrongHeaderLength s = either (ltb (dataOffset s) (privateOffset s)) (ltb (length s) (dataOffset s))
 
 -- the refusals in their order
-abbrev pub faultLines : List ℕ → List Line
-faultLines s =
+abbrev pub refusalLines : List ℕ → List Line
+refusalLines s =
     line 40 (wrongSize s) ∷ line 41 (otherIdentifier s) ∷ line 42 (wrongFlags s) ∷ line 43 (wrongHeaderLength s) ∷ []
 
 -- the first of 40 to 43 that applies, else 0
-abbrev pub fault : List ℕ → ℕ
-fault s = firstOf (faultLines s)
+abbrev pub refusal : List ℕ → ℕ
+refusal s = firstOf (refusalLines s)
 
 -- "a refusal gives zeros and an empty part"
 abbrev pub refused : ℕ → Reading
@@ -95,13 +95,13 @@ taken s =
       rated = outputDataRateFlag s;
       extension = ptsExtension s;
       rate = outputDataRate s;
-      start = dataPlace s;
+      start = dataOffset s;
       end = length s;
     }
 
 -- what is read of a packet
 unfoldable pub readOf : List ℕ → Reading
-readOf s = pick (eqb (fault s) 0) (taken s) (refused (fault s))
+readOf s = pick (eqb (refusal s) 0) (taken s) (refused (refusal s))
 
 -- the data
 abbrev pub dataOf : List ℕ → List ℕ

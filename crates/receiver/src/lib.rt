@@ -14,15 +14,14 @@ use settings::same_address;
 use wire::both;
 use wire::first;
 ghost use mathlib.Core.Path.{_≡_};
-ghost use mathlib.Core.Bool.{not};
 ghost use mathlib.Core.List.{List};
 ghost use Prim.Native.Nat.{ℕ, _+_, _≤_};
 ghost use lib.ListN.{length};
 ghost use lib.Dec.{leb};
-ghost use Rattle.wire.specs.Choice.{first};
+ghost use Rattle.wire.specs.Choice.{firstOf};
 ghost use Rattle.rules.specs.Section.{payload};
-ghost use Rattle.rules.specs.Step.{goodSettings, goodRun, goodState, keyOf, sameKey, continues, From, onward, place};
-ghost use Rattle.rules.specs.Step.{ours, payloadScrambled, overLimit, bar, room, refuse, finish, keep, lay, stepOf, gapOf, Does};
+ghost use Rattle.rules.specs.Step.{goodRun, goodState, setupLines, keyOf, sameKey, continues, From, onward, fillFrom};
+ghost use Rattle.rules.specs.Step.{ours, payloadScrambled, overLimit, ownRefusal, room, refuse, finish, keep, lay, stepOf, gapOf, Does};
 
 // The product is computed only where it is small.
 fn good_run(next: usize, last: usize, filled: usize) -> bool
@@ -84,8 +83,8 @@ fn over_limit(settings: Settings, s: &[u8]) -> bool
 }
 
 // The first of 20 and 21 that applies, else 0.
-fn bar(settings: Settings, s: &[u8]) -> u8
-    ensures { λ r. ⌜ r ≡ bar settings (now (s .entry)) ⌝ }
+fn own_refusal(settings: Settings, s: &[u8]) -> u8
+    ensures { λ r. ⌜ r ≡ ownRefusal settings (now (s .entry)) ⌝ }
 {
     first(
         payload_scrambled(s),
@@ -169,7 +168,7 @@ fn continue_run(state: State, s: &[u8], buffer: &mut [u8]) -> Step
 
 // Number 0 starts a run and forgets any open one; another number goes on with it.
 fn accept(state: State, s: &[u8], buffer: &mut [u8]) -> Step
-    ensures { λ r. ⌜ Does (lay (place state (now (s .entry))) (now (s .entry)) (now (buffer .entry))) r (now (buffer .exit)) ⌝ }
+    ensures { λ r. ⌜ Does (lay (fillFrom state (now (s .entry))) (now (s .entry)) (now (buffer .entry))) r (now (buffer .exit)) ⌝ }
 {
     if section_number(s) == 0 {
         return lay(0, s, buffer);
@@ -178,8 +177,8 @@ fn accept(state: State, s: &[u8], buffer: &mut [u8]) -> Step
 }
 
 // The first of 10 and 11 that applies, else 0.
-fn unfit(settings: Settings, state: State) -> u8
-    ensures { λ r. ⌜ r ≡ first (not (goodSettings settings)) 10 (first (not (goodState state)) 11 0) ⌝ }
+fn setup_refusal(settings: Settings, state: State) -> u8
+    ensures { λ r. ⌜ r ≡ firstOf (setupLines settings state) ⌝ }
 {
     first(
         !settings::good_settings(settings),
@@ -192,13 +191,13 @@ fn unfit(settings: Settings, state: State) -> u8
 pub fn receive(settings: Settings, state: State, s: &[u8], buffer: &mut [u8]) -> Step
     ensures { λ r. ⌜ Does (stepOf settings state (now (s .entry)) (now (buffer .entry))) r (now (buffer .exit)) ⌝ }
 {
-    let unfit = unfit(settings, state);
-    if unfit != 0 {
-        return refuse(unfit);
+    let setup = setup_refusal(settings, state);
+    if setup != 0 {
+        return refuse(setup);
     }
-    let fault = section_check::check(s);
-    if fault != 0 {
-        return refuse(fault);
+    let unsound = section_check::check(s);
+    if unsound != 0 {
+        return refuse(unsound);
     }
     if !ours(settings, s) {
         return Step {
@@ -206,9 +205,9 @@ pub fn receive(settings: Settings, state: State, s: &[u8], buffer: &mut [u8]) ->
             state: state,
         };
     }
-    let bar = bar(settings, s);
-    if bar != 0 {
-        return refuse(bar);
+    let own = own_refusal(settings, s);
+    if own != 0 {
+        return refuse(own);
     }
     accept(state, s, buffer)
 }

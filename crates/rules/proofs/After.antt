@@ -19,11 +19,11 @@ use Rattle.rules.specs.declared.Settings.{Settings}
 use Rattle.rules.specs.declared.State.{State}
 use Rattle.rules.specs.declared.State.the-variants.{Idle, Open}
 use Rattle.rules.specs.After.{NamedByNumber, ReceiverAfter, ReceiverGives, ReceiverNames, runBehind, SenderAfter, SenderGives, stored, storedAt}
-use Rattle.rules.specs.Check.{checkLines, faultLines, formLines, orderLines}
+use Rattle.rules.specs.Check.{checkLines, sharedLines, formLines, orderLines}
 use Rattle.rules.specs.Meaning.{filledBefore}
 use Rattle.rules.specs.Section.{lastSectionNumber, llcSnapFlag, payload, sectionNumber}
 use Rattle.rules.specs.Send.{sendingLength, sendingNumber, sendLines, SendOutcome, sections, sentOf, written}
-use Rattle.rules.specs.Step.{barLines, continues, finish, From, goodSettings, goodState, keep, keyOf, laid, lay, lengthOf, Nowhere, numberOf, onward, ours, Outcome, outcome, place, refuse, refuseFirst, room, stepOf}
+use Rattle.rules.specs.Step.{ownLines, continues, finish, From, goodSettings, goodState, keep, keyOf, laid, lay, lengthOf, Nowhere, numberOf, onward, ours, Outcome, outcome, fillFrom, refuse, refuseFirst, room, setupLines, stepOf}
 use Rattle.rules.proofs.Meaning.{filled-open, filled-zero}
 use Rattle.rules.proofs.Sections.{sections-sent}
 use Rattle.rules.proofs.Send.{accepted, sent-is, unsent-is}
@@ -76,8 +76,8 @@ module _ (σ : State) (s b : List ℕ) (P : Outcome → Type 0) (refused : (n : 
       go true = by-room f (ap (λ (τ : State). filledBefore τ (byteAt s 6)) is ∙ filled-open n f κ (byteAt s 6) h)
       go false = nowhere
 
-  by-place : P (lay (place σ s) s b)
-  unfolding place sectionNumber pick
+  by-place : P (lay (fillFrom σ s) s b)
+  unfolding fillFrom sectionNumber pick
   by-place = go (eqb (byteAt s 6) 0) refl
     where
       go : (t : Bool) → eqb (byteAt s 6) 0 ≡ t → P (lay (pick t (From 0) (onward σ s)) s b)
@@ -90,10 +90,10 @@ module _ (σ : State) (s b : List ℕ) (P : Outcome → Type 0) (refused : (n : 
   by-address false o a = passed
 
   by-step : (c : Settings) → P (stepOf c σ s b)
-  unfolding stepOf without both checkLines faultLines formLines orderLines barLines
+  unfolding setupLines stepOf without both checkLines sharedLines formLines orderLines ownLines
   by-step c =
-      by-lines (line 10 (not (goodSettings c)) ∷ line 11 (not (goodState σ)) ∷ []) _ refl refl refl
-      (by-lines (checkLines s) _ refl refl refl (by-address (ours c s) _ (by-lines (barLines c s) _ refl refl refl by-place)))
+      by-lines (setupLines c σ) _ refl refl refl
+      (by-lines (checkLines s) _ refl refl refl (by-address (ours c s) _ (by-lines (ownLines c s) _ refl refl refl by-place)))
 
 -- ---- what goes with each
 abbrev After : State → List ℕ → List ℕ → Outcome → Type 0

@@ -5,12 +5,12 @@ use mathlib.Core.List.{List}
 use mathlib.Core.Bool.{true}
 use Rattle.wire.specs.Choice.{both, without}
 use Rattle.rules.specs.declared.Form.{Form}
-use Rattle.rules.specs.Check.{formLines, orderLines, faultLines}
+use Rattle.rules.specs.Check.{formLines, orderLines, sharedLines}
 
 pub form-numbered : (f : Form) (s : List ℕ) → without 0 (formLines f s) ≡ true
 unfolding without both formLines
 form-numbered f s = refl
 
-pub fault-numbered : (f : Form) (s : List ℕ) → without 0 (faultLines f s) ≡ true
-unfolding without both faultLines formLines orderLines
-fault-numbered f s = refl
+pub shared-numbered : (f : Form) (s : List ℕ) → without 0 (sharedLines f s) ≡ true
+unfolding without both sharedLines formLines orderLines
+shared-numbered f s = refl

@@ -22,7 +22,7 @@ use Rattle.rules.specs.Sound.{table3, Values}
 use Rattle.rules.specs.Row.{after, Event, fresh, Held, next, section}
 use Rattle.rules.proofs.Good.{good-is}
 use Rattle.rules.proofs.Written.{sent, sent-is, sent-limits}
-use Rattle.rules.proofs.Tested.{elsewhere, joined, Piece, Receivable}
+use Rattle.rules.proofs.Tested.{elsewhere, joined, InRun, Receivable}
 use Rattle.rules.specs.Section.{header, sealed, sectionLength, sectionOf}
 use Rattle.rules.specs.Send.{piece, sectionAt, sectionCount, sections, sectionsTo, sentOf}
 use Rattle.rules.specs.Step.{finish, keyOf, Outcome, ours, room, stepOf}
@@ -31,7 +31,7 @@ use Rattle.rules.proofs.Due.{Due, refused, finished, stored, due, due-h
 use Rattle.rules.proofs.Lists.{map-more}
 use Rattle.rules.proofs.Runs.{EndsIn, only}
 use Rattle.rules.proofs.Sections.{sections-are, sections-sent}
-use Rattle.rules.proofs.Send.{Accepted, count-some, Given, given, given-bytes, joined-to, piece-small}
+use Rattle.rules.proofs.Send.{Accepted, count-some, SentAll, sent-all, sent-all-bytes, joined-to, piece-small}
 use Rattle.rules.proofs.Send.{section-size, section-written, sections-at, sections-joined, sections-length, sections-take}
 
 -- ---- each section is receivable
@@ -108,7 +108,7 @@ module _ (c : Settings) (flag : Bool) (n : ℕ) (u out : List ℕ) (a : Accepted
         },
       )
 
-  agreed : (i : ℕ) → i < count → Piece c key i (at i)
+  agreed : (i : ℕ) → i < count → InRun c key i (at i)
   unfolding sectionAt keyOf
   agreed i h =
       let w = section-written c flag n u (a .some) (a .most) i h in
@@ -177,7 +177,7 @@ module _ (c : Settings) (flag : Bool) (n : ℕ) (u out : List ℕ) (a : Accepted
     unfolding finish sections
     outcomes k h (refused never-ends) = absurd (never-ends key (to (suc k)) (run-next k h) (some-to k))
     outcomes k h (finished {f = f} {after = after} size g last) =
-        let p : Piece c key k (at k) = agreed k h in
+        let p : InRun c key k (at k) = agreed k h in
         let is : suc k ≡ count = omega (arith, p .numbered, ap (λ (κ : Key). κ .last) (p .agrees)) in
         let same = only c b (g .run) (run-next k h) (omega (arith, g .count)) (some-to k) in
         let all : joined (g .sections) ≡ u =
@@ -189,7 +189,7 @@ module _ (c : Settings) (flag : Bool) (n : ℕ) (u out : List ℕ) (a : Accepted
           unit = λ l. ap (λ (m : ℕ). take m after) (sym size) ∙ g .bytes ∙ all;
         }
     outcomes k h (stored size g part) =
-        let p : Piece c key k (at k) = agreed k h in
+        let p : InRun c key k (at k) = agreed k h in
         let more : k < count - 1 = omega (arith, p .numbered, ap (λ (κ : Key). κ .last) (p .agrees)) in
         record { stored = λ l. refl; delivered = λ l. absurd (omega arith); unit = λ l. absurd (omega arith) }
 
@@ -226,10 +226,10 @@ module _ (c : Settings) (flag : Bool) (n : ℕ) (u out : List ℕ) (a : Accepted
 pub round-trip : RoundTrip
 unfolding sections
 round-trip c flag n u out m p =
-    let g : Given c flag n u out m = given c flag n u out m p in
+    let g : SentAll c flag n u out m = sent-all c flag n u out m p in
     let a = g .accepted in
     let xs : List (List ℕ) = sections c flag n u in
-    let bytes : take m (sentOf c flag n u out .output) ≡ flatten xs = given-bytes c flag n u out m g in
+    let bytes : take m (sentOf c flag n u out .output) ≡ flatten xs = sent-all-bytes c flag n u out m g in
     let cut : offers (take m (sentOf c flag n u out .output)) ≡ xs =
     ap offers bytes
     ∙ offers-sections xs (λ i h.

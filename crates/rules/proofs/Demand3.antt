@@ -16,9 +16,9 @@ use Rattle.rules.specs.declared.Key.{Key}
 use Rattle.rules.specs.Check.{check}
 use Rattle.rules.specs.Section.{address, lastSectionNumber, llcSnapFlag}
 use Rattle.rules.specs.Sound.{Limits, table3, Values}
-use Rattle.rules.specs.Step.{goodSettings, keyOf, ours, refuseFirst, room, stepOf}
+use Rattle.rules.specs.Step.{goodSettings, keyOf, ours, refuseFirst, room, setupLines, stepOf}
 use Rattle.rules.specs.Row.{after, datagram, Event, fresh, gap, handedBy, handedOver, Held, nothing, section}
-use Rattle.rules.specs.Demand3.{Demand3Holds, Elsewhere, Ends, HandedRight, joined, OfBytes, Once, OnlyOne, Own, Piece, Ready, Receivable, Struck, WholeRun}
+use Rattle.rules.specs.Demand3.{Demand3Holds, Elsewhere, Ends, HandedRight, joined, OfBytes, Once, OnlyOne, Own, InRun, Ready, Receivable, Struck, WholeRun}
 use Rattle.rules.specs.Meaning.{Good}
 use Rattle.rules.proofs.Compared.{compares-last}
 use Rattle.rules.proofs.Due.{no-datagram}
@@ -122,9 +122,9 @@ struck-some c (x ∷ q) t e n (inl h) = struck-some c q t e n (h .1)
 struck-some c (x ∷ q) t e n (inr h) = omega (arith, ap length (h .1 .1))
 
 -- ---- one section of a run
-piece-read : (c : Settings) (κ : Key) (i : ℕ) (s : List ℕ) → Bytes s → tested.Piece c κ i s → Piece c (κ .last) (κ .flag) i (read s)
+member-read : (c : Settings) (κ : Key) (i : ℕ) (s : List ℕ) → Bytes s → tested.InRun c κ i s → InRun c (κ .last) (κ .flag) i (read s)
 unfolding read keyOf
-piece-read c κ i s b p =
+member-read c κ i s b p =
     record {
       receivable =
           record {
@@ -138,10 +138,10 @@ piece-read c κ i s b p =
       flagged = ap (λ (k : Key). k .flag) (p .agrees);
     }
 
-piece-written : (c : Settings) (κ : Key) (i : ℕ) (v : Values) → Piece c (κ .last) (κ .flag) i v
-    → tested.Piece c κ i (table3 v)
+member-written : (c : Settings) (κ : Key) (i : ℕ) (v : Values) → InRun c (κ .last) (κ .flag) i v
+    → tested.InRun c κ i (table3 v)
 unfolding keyOf
-piece-written c κ i v p =
+member-written c κ i v p =
     let k : Receivable c v = p .receivable in
     let last : lastSectionNumber (table3 v) ≡ κ .last = last-back v ∙ p .ending in
     let flag : llcSnapFlag (table3 v) ≡ κ .flag = flagged-back v (k .limits) ∙ p .flagged in
@@ -235,23 +235,23 @@ module _ (c : Settings) (b : List ℕ) where
         room = rw (joined-read xs) (omega (arith, u .run .fits, room-bounds b .1));
       }
     where
-      each : (front back : List Values) (v : Values) → map read xs ≡ front ++ (v ∷ back) → Piece c (u .key .last) (u .key .flag) (length front) v
+      each : (front back : List Values) (v : Values) → map read xs ≡ front ++ (v ∷ back) → InRun c (u .key .last) (u .key .flag) (length front) v
       each front back v p =
           let i : ℕ = length front in
           let h : i < length xs = omega (arith, length-map xs read, ap length p, length-append front (v ∷ back)) in
           let is : read (getD xs i []) ≡ v =
           sym (List·getD-map read xs i []) ∙ ap (λ (l : List Values). getD l i (read [])) p ∙ getD-append-seam front v back (read []) in
-          rw is at (piece-read c (u .key) i (getD xs i []) (bytes i h) (u .run .each i h))
+          rw is at (member-read c (u .key) i (getD xs i []) (bytes i h) (u .run .each i h))
 
-  piece-at : (vs : List Values) (u : WholeRun c b vs) (i : ℕ) → i < length vs → Piece c (u .last) (u .flag) i (getD vs i (read []))
-  piece-at vs u i h =
+  member-at : (vs : List Values) (u : WholeRun c b vs) (i : ℕ) → i < length vs → InRun c (u .last) (u .flag) i (getD vs i (read []))
+  member-at vs u i h =
       let v : Values = getD vs i (read []) in
       rw (length-take-le i vs (omega arith)) at (u .each (take i vs) (drop (suc i) vs) v (split-at vs i (read []) h))
 
   run-written : (vs : List Values) → WholeRun c b vs → tested.WholeRun c b (map table3 vs)
   unfolding room
   run-written vs u =
-      let first : Piece c (u .last) (u .flag) 0 (getD vs 0 (read [])) = piece-at vs u 0 (omega (arith, u .whole)) in
+      let first : InRun c (u .last) (u .flag) 0 (getD vs 0 (read [])) = member-at vs u 0 (omega (arith, u .whole)) in
       record {
         key = key;
         run = record { each = each; fits = rw (joined-written vs) (omega (arith, u .unit, u .room)) };
@@ -262,10 +262,10 @@ module _ (c : Settings) (b : List ℕ) where
       key : Key
       key = record { last = u .last; flag = u .flag }
 
-      each : (i : ℕ) → i < length (map table3 vs) → tested.Piece c key i (getD (map table3 vs) i [])
+      each : (i : ℕ) → i < length (map table3 vs) → tested.InRun c key i (getD (map table3 vs) i [])
       each i l =
           let h : i < length vs = omega (arith, length-map vs table3) in
-          rw (at-written vs i h) (piece-written c key i (getD vs i (read [])) (piece-at vs u i h))
+          rw (at-written vs i h) (member-written c key i (getD vs i (read [])) (member-at vs u i h))
 
   ends-read : {row : List Event} {xs : List (List ℕ)} → ((i : ℕ) → i < length xs → table3 (read (getD xs i [])) ≡ getD xs i [])
       → tested.Ends row xs → Ends row (map read xs)
@@ -300,7 +300,7 @@ module _ (c : Settings) (b : List ℕ) where
 
   -- ---- under bad settings nothing is handed over
   bad-hands : goodSettings c ≡ false → (h : Held) (e : Event) → handedOver c h e ≡ nothing
-  unfolding handedOver handedBy stepOf refuseFirst firstOf first pick
+  unfolding handedOver handedBy setupLines stepOf refuseFirst firstOf first pick
   bad-hands bad h (section s) = rw bad
   bad-hands bad h gap = refl
 

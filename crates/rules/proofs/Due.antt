@@ -16,8 +16,8 @@ use Rattle.rules.specs.declared.State.the-variants.{Open}
 use Rattle.rules.specs.declared.Answer.the-variants.{Stored, PassedBy}
 use Rattle.rules.specs.Section.{sectionNumber, payload}
 use Rattle.rules.specs.Check.{check}
-use Rattle.rules.specs.Step.{bar, finish, goodSettings, goodState, keep, keyOf, lay, Place, Nowhere, From, place, room}
-use Rattle.rules.specs.Step.{Outcome, ours, outcome, refuse, refuseFirst, stepOf}
+use Rattle.rules.specs.Step.{setupLines, ownRefusal, finish, goodSettings, goodState, keep, keyOf, lay, Fill, Nowhere, From, fillFrom, room}
+use Rattle.rules.specs.Step.{Outcome, ours, outcome, refuse, refuseFirst, setupLines, stepOf}
 use Rattle.rules.specs.Row.{Event, section, Held, fresh, nothing, datagram, handedBy}
 use Rattle.rules.proofs.Tested.{elsewhere, joined}
 use Rattle.rules.proofs.Tested.{Receivable, WholeRun, Ready}
@@ -37,9 +37,8 @@ pick-case P false o u f g = g refl
 
 -- ---- the step
 -- neither 10 nor 11 applies
-settled : (c : Settings) (σ : State) → goodSettings c ≡ true → goodState σ ≡ true
-    → firstOf (line 10 (not (goodSettings c)) ∷ line 11 (not (goodState σ)) ∷ []) ≡ 0
-unfolding firstOf first
+settled : (c : Settings) (σ : State) → goodSettings c ≡ true → goodState σ ≡ true → firstOf (setupLines c σ) ≡ 0
+unfolding setupLines firstOf first
 settled c σ p q = rw (p, q)
 
 struck-is : (c : Settings) (s : List ℕ) → check s ≡ 0 → ours c s ≡ false → elsewhere c (section s) ≡ true
@@ -133,10 +132,10 @@ module _ (c : Settings) (b : List ℕ) where
     refusing no-next = refused (λ κ xs e some. no-next κ (next c b e some))
 
     -- the place that a run asks for is the place that there is
-    place-is : (p : Place) → place (h .state) s ≡ p → {κ : Key} (l : Next c b past s κ) → p ≡ From (length (joined (l .init)))
+    place-is : (p : Fill) → fillFrom (h .state) s ≡ p → {κ : Key} (l : Next c b past s κ) → p ≡ From (length (joined (l .init)))
     place-is p q l = sym q ∙ placed c b past (h .state) (h .buffer) s (l .init) (i .track) (l .before) (l .piece)
 
-    keeps : Receivable c s → (f : ℕ) → place (h .state) s ≡ From f → f + length (payload s) ≤ room (h .buffer)
+    keeps : Receivable c s → (f : ℕ) → fillFrom (h .state) s ≡ From f → f + length (payload s) ≤ room (h .buffer)
         → Here (keep f s (h .buffer))
     unfolding keep
     keeps k f q fits =
@@ -149,7 +148,7 @@ module _ (c : Settings) (b : List ℕ) where
         let other : sectionNumber s ≡ keyOf s .last → ⊥ = λ e. eqb-false _ _ t (e ∙ key-last s) in
         stored size g (omega (arith, in-order s (k .sound))))
 
-    lays : Receivable c s → (p : Place) → place (h .state) s ≡ p → Here (lay p s (h .buffer))
+    lays : Receivable c s → (p : Fill) → fillFrom (h .state) s ≡ p → Here (lay p s (h .buffer))
     unfolding lay
     lays k Nowhere q = refusing (λ κ l. nowhere (place-is Nowhere q l))
     lays k (From f) q =
@@ -162,7 +161,7 @@ module _ (c : Settings) (b : List ℕ) where
 
     -- test by test, as the step has them
     pub due : goodSettings c ≡ true → elsewhere c (section s) ≡ false → Here (stepOf c (h .state) s (h .buffer))
-    unfolding check bar stepOf refuseFirst
+    unfolding check ownRefusal stepOf refuseFirst
     due good kept =
         let fine : goodState (h .state) ≡ true = good-state c b past (h .state) (h .buffer) good (i .track) in
         pick-case Here _ _ _ (λ t.
@@ -170,7 +169,7 @@ module _ (c : Settings) (b : List ℕ) where
         pick-case Here _ _ _ (λ address.
         pick-case Here _ _ _ (λ free.
         let t = unbarred c s (eqb-true _ _ free) in
-        lays (record { sound = eqb-true _ _ sound; address = address; clear = t .0; within = t .1 }) (place (h .state) s) refl)
+        lays (record { sound = eqb-true _ _ sound; address = address; clear = t .0; within = t .1 }) (fillFrom (h .state) s) refl)
         (λ barred. refusing (λ κ l. let r = l .piece .receivable in eqb-false _ _ barred (no-bar c s (r .clear) (r .within)))))
         (λ foreign. absurd (never (sym kept ∙ struck-is c s (eqb-true _ _ sound) foreign))))
         (λ faulty. refusing (λ κ l. eqb-false _ _ faulty (l .piece .receivable .sound))))

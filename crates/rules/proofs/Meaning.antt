@@ -19,11 +19,11 @@ use Rattle.rules.specs.declared.Key.{Key}
 use Rattle.rules.specs.declared.Settings.{Settings}
 use Rattle.rules.specs.declared.State.{State}
 use Rattle.rules.specs.declared.State.the-variants.{Idle, Open}
-use Rattle.rules.specs.Check.{addressScrambled, check, checkLines, datagramForm, fault, faultLines, formLines, notCurrent, orderLines, otherTable, outOfOrder, tooShort, wrongCrc, wrongLength, wrongSyntax}
+use Rattle.rules.specs.Check.{addressScrambled, check, checkLines, datagramForm, sharedRefusal, sharedLines, formLines, notCurrent, orderLines, otherTable, outOfOrder, tooShort, wrongCrc, wrongLength, wrongSyntax}
 use Rattle.rules.specs.Crc.{crc32}
 use Rattle.rules.specs.Meaning.{CheckMeans, CutInto, filledBefore, GoesOn, GoodState, DefaultMeans, ReceiverMeans, SameAddress, sectionRows, SenderMeans, sharedRows}
 use Rattle.rules.specs.Section.{address, addressScramblingControl, crcField, currentNextIndicator, lastSectionNumber, llcSnapFlag, payload, payloadScramblingControl, privateIndicator, sectionLength, sectionNumber, sectionSyntaxIndicator, tableId}
-use Rattle.rules.specs.Step.{barLines, continues, From, goodRun, goodSettings, goodState, keep, keyOf, lay, Nowhere, numberOf, onward, ours, Outcome, outcome, overLimit, payloadScrambled, place, refuse, refuseFirst, room, sameKey, stepOf, finish}
+use Rattle.rules.specs.Step.{ownLines, continues, From, goodRun, goodSettings, goodState, keep, keyOf, lay, Nowhere, numberOf, onward, ours, Outcome, outcome, overLimit, payloadScrambled, fillFrom, refuse, refuseFirst, room, sameKey, setupLines, stepOf, finish}
 use Rattle.rules.proofs.Compared.{compares-last}
 use Rattle.rules.proofs.Good.{good-is}
 use Rattle.rules.specs.Send.{sectionCount, sections, sendingNumber, sendLines, SendOutcome, sentOf, written}
@@ -31,10 +31,10 @@ use Rattle.rules.proofs.Send.{cut, one-cut, sections-bytes}
 use Rattle.rules.proofs.Sound.{payload-length}
 
 -- ---- 12 to 18, for any table
-pub gives-fault : (f : Form) (s : List ℕ) (p15 : Type 0) (m : ℕ) (rest : List Row) → Tells (wrongSyntax f s) p15
-    → (fault f s ≡ 0 → f .fewest ≤ length s → Gives m rest) → Gives (orElse (faultLines f s) m) (sharedRows (f .fewest) (f .table) p15 s ++ rest)
-unfolding orElse fault faultLines formLines orderLines firstOf tooShort otherTable wrongLength wrongCrc notCurrent outOfOrder tableId sectionLength crcField currentNextIndicator sectionNumber lastSectionNumber
-gives-fault f s p15 m rest h15 g =
+pub gives-refusal : (f : Form) (s : List ℕ) (p15 : Type 0) (m : ℕ) (rest : List Row) → Tells (wrongSyntax f s) p15
+    → (sharedRefusal f s ≡ 0 → f .fewest ≤ length s → Gives m rest) → Gives (orElse (sharedLines f s) m) (sharedRows (f .fewest) (f .table) p15 s ++ rest)
+unfolding orElse sharedRefusal sharedLines formLines orderLines firstOf tooShort otherTable wrongLength wrongCrc notCurrent outOfOrder tableId sectionLength crcField currentNextIndicator sectionNumber lastSectionNumber
+gives-refusal f s p15 m rest h15 g =
     gives-row _ 12 (tells-lt (length s) (f .fewest)) (λ e12.
     gives-row _ 13 (tells-not _ (tells-eq (byteAt s 0) (f .table))) (λ e13.
     gives-row _ 14 (tells-either _ _ (tells-lt 4093 (sectionLength s)) (tells-not _ (tells-eq (sectionLength s + 3) (length s)))) (λ e14.
@@ -48,9 +48,9 @@ gives-fault f s p15 m rest h15 g =
 -- ---- the datagram section: 12 to 19
 gives-check : (s : List ℕ) (m : ℕ) (rest : List Row) → (16 ≤ length s → Gives m rest)
     → Gives (orElse (checkLines s) m) (sectionRows s ++ rest)
-unfolding orElse checkLines faultLines formLines orderLines wrongSyntax sectionSyntaxIndicator privateIndicator both addressScrambled addressScramblingControl
+unfolding orElse checkLines sharedLines formLines orderLines wrongSyntax sectionSyntaxIndicator privateIndicator both addressScrambled addressScramblingControl
 gives-check s m rest g =
-    gives-fault datagramForm s _ (first (addressScrambled s) 19 m) _
+    gives-refusal datagramForm s _ (first (addressScrambled s) 19 m) _
     (tells-either _ _ (tells-not _ (tells-eq (bit 7 (byteAt s 1)) 1)) (tells-not _ (tells-eq (bit 6 (byteAt s 1)) 0)))
     (λ _ l. gives-row _ 19 (tells-not _ (tells-eq (bits 3 2 (byteAt s 5)) 0)) (λ _. g l))
 
@@ -118,7 +118,7 @@ filled-open e f κ zero h = absurd (h refl)
 filled-open e f κ (suc i) h = refl
 
 check-numbered : (s : List ℕ) → without 0 (checkLines s) ≡ true
-unfolding without both checkLines faultLines formLines orderLines
+unfolding without both checkLines sharedLines formLines orderLines
 check-numbered s = refl
 
 module _ (s b : List ℕ) where
@@ -161,8 +161,8 @@ module _ (s b : List ℕ) where
           gives-row false 22 (λ z. absurd (never z), λ w. absurd (w .1 (h .0 refl))) (λ _. gives-laid (Open n f κ) f (filled-open n f κ (byteAt s 6) e) l)
       go false h = stopped (Open n f κ) e (λ w. never (h .1 w))
 
-  gives-placed : (σ : State) → 16 ≤ length s → Gives (number (lay (place σ s) s b)) (row22 σ ∷ rows23 σ)
-  unfolding place sectionNumber pick first
+  gives-placed : (σ : State) → 16 ≤ length s → Gives (number (lay (fillFrom σ s) s b)) (row22 σ ∷ rows23 σ)
+  unfolding fillFrom sectionNumber pick first
   gives-placed σ l = go (eqb (byteAt s 6) 0) refl
     where
       go : (t : Bool) → eqb (byteAt s 6) 0 ≡ t → Gives (number (lay (pick t (From 0) (onward σ s)) s b)) (row22 σ ∷ rows23 σ)
@@ -172,28 +172,25 @@ module _ (s b : List ℕ) where
       go false e = gives-onward σ (eqb-false _ _ e) l
 
 module _ (c : Settings) (σ : State) (s b : List ℕ) where
-  abbrev given : List Line
-  given = line 10 (not (goodSettings c)) ∷ line 11 (not (goodState σ)) ∷ []
-
   abbrev laidOut : Outcome
-  laidOut = lay (place σ s) s b
+  laidOut = lay (fillFrom σ s) s b
 
-  number-ours : number (pick (ours c s) (refuseFirst (barLines c s) b laidOut) (outcome PassedBy σ b))
-      ≡ first (not (ours c s)) 2 (orElse (barLines c s) (number laidOut))
-  unfolding numberOf without barLines both
+  number-ours : number (pick (ours c s) (refuseFirst (ownLines c s) b laidOut) (outcome PassedBy σ b))
+      ≡ first (not (ours c s)) 2 (orElse (ownLines c s) (number laidOut))
+  unfolding numberOf without ownLines both
   number-ours =
-      number-pick (ours c s) (refuseFirst (barLines c s) b laidOut) (outcome PassedBy σ b)
-      ∙ ap (λ (m : ℕ). pick (ours c s) m 2) (number-refused (barLines c s) b laidOut refl)
+      number-pick (ours c s) (refuseFirst (ownLines c s) b laidOut) (outcome PassedBy σ b)
+      ∙ ap (λ (m : ℕ). pick (ours c s) m 2) (number-refused (ownLines c s) b laidOut refl)
       ∙ pick-first (ours c s) 2 _
 
-  number-step : number (stepOf c σ s b) ≡ orElse given (orElse (checkLines s) (first (not (ours c s)) 2 (orElse (barLines c s) (number laidOut))))
-  unfolding stepOf without both
+  number-step : number (stepOf c σ s b) ≡ orElse (setupLines c σ) (orElse (checkLines s) (first (not (ours c s)) 2 (orElse (ownLines c s) (number laidOut))))
+  unfolding setupLines stepOf without both
   number-step =
-      number-refused given b _ refl
-      ∙ ap (orElse given) (number-refused (checkLines s) b _ (check-numbered s) ∙ ap (orElse (checkLines s)) number-ours)
+      number-refused (setupLines c σ) b _ refl
+      ∙ ap (orElse (setupLines c σ)) (number-refused (checkLines s) b _ (check-numbered s) ∙ ap (orElse (checkLines s)) number-ours)
 
 pub receiver-means : ReceiverMeans
-unfolding orElse barLines payloadScrambled overLimit payloadScramblingControl lastSectionNumber
+unfolding orElse setupLines ownLines payloadScrambled overLimit payloadScramblingControl lastSectionNumber
 receiver-means c σ s b n =
     rw (number-step c σ s b)
     (gives-row _ 10 (tells-not _ (good-is c)) (λ _.

@@ -11,7 +11,7 @@ use Rattle.rules.specs.declared.Key.{Key}
 use Rattle.rules.specs.Section.{payload}
 use Rattle.rules.specs.Step.{room}
 use Rattle.rules.specs.Row.{Event, section, gap}
-use Rattle.rules.proofs.Tested.{joined, Ends, Piece, Run, WholeRun}
+use Rattle.rules.proofs.Tested.{joined, Ends, InRun, Run, WholeRun}
 use Rattle.rules.proofs.Lists.{length-more, map-more, split-last, first-parts}
 use Rattle.rules.proofs.Sound.{payload-small}
 
@@ -39,9 +39,9 @@ ends-at {row} {xs} e j =
 ends-last : (past : List Event) (v : Event) {xs : List (List ℕ)} (n : ℕ) → Ends (past ++ (v ∷ [])) xs → length xs ≡ n + 1
     → v ≡ section (getD xs n [])
 ends-last past v n e h =
-    let place : length past ≡ length (e .front) + n = omega (arith, ends-size e, length-more past v) in
+    let index : length past ≡ length (e .front) + n = omega (arith, ends-size e, length-more past v) in
     sym (getD-append-seam past v [] (section []))
-    ∙ ap (λ (i : ℕ). getD (past ++ (v ∷ [])) i (section [])) place
+    ∙ ap (λ (i : ℕ). getD (past ++ (v ∷ [])) i (section [])) index
     ∙ ends-at e n
 
 -- a row that ends in a gap notice ends in no sections
@@ -79,7 +79,7 @@ module _ (c : Settings) (b : List ℕ) where
         there = record { front = row; split = sym (append-nil row) };
       }
 
-  pub more : {row : List Event} {κ : Key} {xs : List (List ℕ)} (s : List ℕ) → EndsIn row κ xs → Piece c κ (length xs) s
+  pub more : {row : List Event} {κ : Key} {xs : List (List ℕ)} (s : List ℕ) → EndsIn row κ xs → InRun c κ (length xs) s
       → length (joined xs) + length (payload s) ≤ room b → EndsIn (row ++ (section s ∷ [])) κ (xs ++ (s ∷ []))
   more {row} {κ} {xs} s e p h =
       record {
@@ -87,7 +87,7 @@ module _ (c : Settings) (b : List ℕ) where
         there = record { front = e .there .front; split = rw (map-more section xs s, ← append-assoc, ← e .there .split) };
       }
     where
-      at : (i : ℕ) → i < length (xs ++ (s ∷ [])) → Dec (i < length xs) → Piece c κ i (getD (xs ++ (s ∷ [])) i [])
+      at : (i : ℕ) → i < length (xs ++ (s ∷ [])) → Dec (i < length xs) → InRun c κ i (getD (xs ++ (s ∷ [])) i [])
       at i k (yes l) = rw (List·getD-append xs (s ∷ []) [] i l) (e .run .each i l)
       at i k (no l) = let is : i ≡ length xs = omega (arith, length-more xs s) in rw (is, getD-append-seam xs s [] []) p
 
@@ -96,7 +96,7 @@ module _ (c : Settings) (b : List ℕ) where
   pub record Next (past : List Event) (s : List ℕ) (κ : Key) : Type 0 where
     pub init : List (List ℕ)
     pub before : EndsIn past κ init
-    pub piece : Piece c κ (length init) s
+    pub piece : InRun c κ (length init) s
     pub fits : length (joined init) + length (payload s) ≤ room b
 
   next-of : {past : List Event} {s : List ℕ} {κ : Key} (init : List (List ℕ))
@@ -140,14 +140,14 @@ module _ (c : Settings) (b : List ℕ) where
       let i : ℕ = length (x .there .front) + n in
       let j : ℕ = i - length (y .there .front) in
       let ends : i + 1 ≡ length row = omega (arith, ends-size (x .there)) in
-      let place : i ≡ length (y .there .front) + j = omega arith in
+      let index : i ≡ length (y .there .front) + j = omega arith in
       let at : section (getD xs n []) ≡ section (getD ys j []) =
       sym (List·getD-append row later (section []) i (omega arith) ∙ ends-at (x .there) n)
-      ∙ ap (λ (k : ℕ). getD (row ++ later) k (section [])) place
+      ∙ ap (λ (k : ℕ). getD (row ++ later) k (section [])) index
       ∙ ends-at (y .there) j in
       let is : getD ys j [] ≡ getD xs n [] = cc in
-      let p : Piece c κ n (getD xs n []) = x .run .each n (omega arith) in
-      let q : Piece c μ j (getD xs n []) =
+      let p : InRun c κ n (getD xs n []) = x .run .each n (omega arith) in
+      let q : InRun c μ j (getD xs n []) =
       rw is at (y .run .each j (omega (arith, ends-size (y .there), length-append row later))) in
       (omega (arith, p .numbered, q .numbered), sym (p .agrees) ∙ q .agrees)
 

@@ -67,7 +67,7 @@ module _ (c : Settings) (flag : Bool) (n : ℕ) (u out : List ℕ) where
   unfolding sentOf pick
   sent-is h = rw (eq-eqb _ 0 h)
 
-  -- the number 0 is given only with what is sent
+  -- the number 0 is sent-all only with what is sent
   pub sent-by-number : sendingNumber (sentOf c flag n u out .sending) ≡ 0
       → sentOf c flag n u out .sending ≡ Sent (sendingLength (sentOf c flag n u out .sending))
   unfolding written sendingNumber sendingLength
@@ -79,28 +79,28 @@ module _ (c : Settings) (flag : Bool) (n : ℕ) (u out : List ℕ) where
       go (no q) = absurd (q (rw (unsent-is q) at h))
 
   -- ---- what a sender that refuses nothing gives
-  pub record Given (m : ℕ) : Type 0 where
+  pub record SentAll (m : ℕ) : Type 0 where
     pub accepted : Accepted c flag n u out
     pub size : m ≡ length (flatten (sections c flag n u))
     pub output : sentOf c flag n u out .output ≡ over (flatten (sections c flag n u)) out
 
-  pub given : (m : ℕ) → sentOf c flag n u out .sending ≡ Sent m → Given m
+  pub sent-all : (m : ℕ) → sentOf c flag n u out .sending ≡ Sent m → SentAll m
   unfolding written
-  given m p = go (ℕ-discrete (firstOf (sendLines c flag n u out)) 0)
+  sent-all m p = go (ℕ-discrete (firstOf (sendLines c flag n u out)) 0)
     where
-      go : Dec (firstOf (sendLines c flag n u out) ≡ 0) → Given m
+      go : Dec (firstOf (sendLines c flag n u out) ≡ 0) → SentAll m
       go (yes q) =
           let size : Sent (length (flatten (sections c flag n u))) ≡ Sent m = rw (sent-is q) at p in
           record { accepted = accepted q; size = cc; output = ap (λ (o : SendOutcome). o .output) (sent-is q) }
       go (no q) = let other = rw (unsent-is q) at p in let z : _≡_ {A = ℕ} 0 1 = cc in absurd (omega arith)
 
-  -- the m bytes given are within the output
-  pub given-fits : (m : ℕ) → sentOf c flag n u out .sending ≡ Sent m → m ≤ length out
-  given-fits m p = let g = given m p in omega (arith, g .size, g .accepted .room)
+  -- the m bytes sent-all are within the output
+  pub sent-all-fits : (m : ℕ) → sentOf c flag n u out .sending ≡ Sent m → m ≤ length out
+  sent-all-fits m p = let g = sent-all m p in omega (arith, g .size, g .accepted .room)
 
-  -- the m bytes given are the sections
-  pub given-bytes : (m : ℕ) → Given m → take m (sentOf c flag n u out .output) ≡ flatten (sections c flag n u)
-  given-bytes m g =
+  -- the m bytes sent-all are the sections
+  pub sent-all-bytes : (m : ℕ) → SentAll m → take m (sentOf c flag n u out .output) ≡ flatten (sections c flag n u)
+  sent-all-bytes m g =
       let bytes : List ℕ = flatten (sections c flag n u) in
       rw (g .output, take-all (length out) bytes (g .accepted .room)) (take-at bytes (drop (length bytes) out) m (sym (g .size)))
 

@@ -13,12 +13,12 @@ use Rattle.rules.specs.Crc.{crc32}
 use Rattle.rules.specs.Section.{addressScramblingControl, crcField, crcOffset, currentNextIndicator, lastSectionNumber, payload, payloadScramblingControl, privateIndicator, sectionLength, sectionNumber, sectionSyntaxIndicator, tableId}
 use Rattle.rules.specs.Check.{tooShort, otherTable, wrongLength, wrongSyntax, wrongCrc, notCurrent, outOfOrder, addressScrambled, datagramForm}
 use Rattle.rules.specs.declared.Settings.{Settings}
-use Rattle.rules.specs.Step.{bar, barLines, overLimit, payloadScrambled}
-use Rattle.rules.specs.Check.{formLines, orderLines, fault, faultLines, checkLines, check}
+use Rattle.rules.specs.Step.{ownRefusal, ownLines, overLimit, payloadScrambled}
+use Rattle.rules.specs.Check.{formLines, orderLines, sharedRefusal, sharedLines, checkLines, check}
 use Rattle.rules.specs.declared.Form.{Form}
 
 -- ---- a section of a form to which none of 12 to 18 applies
-pub record Faultless (f : Form) (s : List ℕ) : Type 0 where
+pub record Unrefused (f : Form) (s : List ℕ) : Type 0 where
   pub long : f .fewest ≤ length s
   pub table : tableId s ≡ f .table
   pub short : length s ≤ 4096
@@ -29,9 +29,9 @@ pub record Faultless (f : Form) (s : List ℕ) : Type 0 where
   pub current : currentNextIndicator s ≡ 0 → ⊥
   pub order : sectionNumber s ≤ lastSectionNumber s
 
-pub faultless : (f : Form) (s : List ℕ) → fault f s ≡ 0 → Faultless f s
-unfolding fault faultLines formLines orderLines without both tooShort otherTable wrongLength wrongSyntax wrongCrc notCurrent outOfOrder
-faultless f s p =
+pub unrefused : (f : Form) (s : List ℕ) → sharedRefusal f s ≡ 0 → Unrefused f s
+unfolding sharedRefusal sharedLines formLines orderLines without both tooShort otherTable wrongLength wrongSyntax wrongCrc notCurrent outOfOrder
+unrefused f s p =
     let parts = none-parts (formLines f s) _ refl p in
     let t12 = none-first _ _ (omega arith) (parts .0) in
     let t13 = none-first _ _ (omega arith) (t12 .1) in
@@ -58,15 +58,15 @@ faultless f s p =
 
 -- ---- what a sound section is
 pub record Sound (s : List ℕ) : Type 0 where
-  pub shared : Faultless datagramForm s
+  pub shared : Unrefused datagramForm s
   pub private : privateIndicator s ≡ 0
   pub clear : addressScramblingControl s ≡ 0
 
 pub sound : (s : List ℕ) → check s ≡ 0 → Sound s
-unfolding check checkLines fault faultLines formLines orderLines without both addressScrambled
+unfolding check checkLines sharedRefusal sharedLines formLines orderLines without both addressScrambled
 sound s p =
-    let lines = none-parts (faultLines datagramForm s) _ refl p in
-    let shared : Faultless datagramForm s = faultless datagramForm s (lines .0) in
+    let lines = none-parts (sharedLines datagramForm s) _ refl p in
+    let shared : Unrefused datagramForm s = unrefused datagramForm s (lines .0) in
     let t19 = none-first _ _ (omega arith) (lines .1) in
     record {
       shared = shared;
@@ -82,13 +82,13 @@ pub payload-small : (s : List ℕ) → check s ≡ 0 → length (payload s) ≤ 
 payload-small s p = let a : Sound s = sound s p in omega (arith, payload-length s (a .shared .long), a .shared .short)
 
 -- ---- neither 20 nor 21 applies
-pub unbarred : (c : Settings) (s : List ℕ) → bar c s ≡ 0 → (payloadScramblingControl s ≡ 0) × (lastSectionNumber s + 1 ≤ c .limit)
-unfolding bar barLines payloadScrambled overLimit
+pub unbarred : (c : Settings) (s : List ℕ) → ownRefusal c s ≡ 0 → (payloadScramblingControl s ≡ 0) × (lastSectionNumber s + 1 ≤ c .limit)
+unfolding ownRefusal ownLines payloadScrambled overLimit
 unbarred c s p =
     let t20 = none-first _ _ (omega arith) p in
     let t21 = none-first _ _ (omega arith) (t20 .1) in
     (eqb-true _ _ (not-false _ (t20 .0)), ltb-false _ _ (t21 .0))
 
-pub no-bar : (c : Settings) (s : List ℕ) → payloadScramblingControl s ≡ 0 → lastSectionNumber s + 1 ≤ c .limit → bar c s ≡ 0
-unfolding bar barLines payloadScrambled overLimit firstOf first
+pub no-bar : (c : Settings) (s : List ℕ) → payloadScramblingControl s ≡ 0 → lastSectionNumber s + 1 ≤ c .limit → ownRefusal c s ≡ 0
+unfolding ownRefusal ownLines payloadScrambled overLimit firstOf first
 no-bar c s e h = rw (e, le-ltb (c .limit) (lastSectionNumber s + 1) h)

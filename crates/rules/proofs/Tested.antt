@@ -32,7 +32,7 @@ pub record Receivable (c : Settings) (s : List ℕ) : Type 0 where
   pub within : lastSectionNumber s + 1 ≤ c .limit
 
 -- section i of a run that agrees on κ: its last number and its flag
-pub record Piece (c : Settings) (κ : Key) (i : ℕ) (s : List ℕ) : Type 0 where
+pub record InRun (c : Settings) (κ : Key) (i : ℕ) (s : List ℕ) : Type 0 where
   pub receivable : Receivable c s
   pub numbered : sectionNumber s ≡ i
   pub agrees : keyOf s ≡ κ
@@ -48,7 +48,7 @@ unit d = d
 
 -- sections numbered from 0 on that agree on κ and fit the buffer and 65,535 bytes
 pub record Run (c : Settings) (b : List ℕ) (κ : Key) (xs : List (List ℕ)) : Type 0 where
-  pub each : (i : ℕ) → i < length xs → Piece c κ i (getD xs i [])
+  pub each : (i : ℕ) → i < length xs → InRun c κ i (getD xs i [])
   pub fits : length (joined xs) ≤ room b
 
 -- a run from 0 to its last number, within the section limit

@@ -17,9 +17,9 @@ use Rattle.rules.specs.declared.State.the-variants.{Idle, Open}
 use Rattle.rules.specs.Check.{check}
 use Rattle.rules.specs.Section.{sectionNumber, lastSectionNumber, payload}
 use Rattle.rules.specs.Step.{continues, goodRun, goodSettings, goodState, keyOf, laid, onward}
-use Rattle.rules.specs.Step.{Nowhere, From, place, room}
+use Rattle.rules.specs.Step.{Nowhere, From, fillFrom, room}
 use Rattle.rules.specs.Row.{Event, section}
-use Rattle.rules.proofs.Tested.{joined, Receivable, Piece}
+use Rattle.rules.proofs.Tested.{joined, Receivable, InRun}
 use Rattle.rules.proofs.Lists.{length-more}
 use Rattle.rules.proofs.Keys.{same-key, key-same}
 use Rattle.wire.proofs.Choice.{both-true}
@@ -81,7 +81,7 @@ module _ (c : Settings) (b : List ℕ) where
 
   pub within : {row : List Event} {κ : Key} {xs : List (List ℕ)} → EndsIn c b row κ xs → 0 < length xs → κ .last + 1 ≤ c .limit
   within {row} {κ} {xs} e some =
-      let p : Piece c κ 0 (getD xs 0 []) = e .run .each 0 some in
+      let p : InRun c κ 0 (getD xs 0 []) = e .run .each 0 some in
       let last : keyOf (getD xs 0 []) .last + 1 ≤ c .limit = rw (key-last (getD xs 0 [])) (p .receivable .within) in
       rw (p .agrees) at last
 
@@ -103,9 +103,9 @@ module _ (c : Settings) (b : List ℕ) where
 
   -- ---- the place of a section's payload
   -- a section that has a place goes on with a run that the row ends in
-  pub follows : (row : List Event) (σ : State) (now s : List ℕ) (f : ℕ) → Track row σ now → place σ s ≡ From f
+  pub follows : (row : List Event) (σ : State) (now s : List ℕ) (f : ℕ) → Track row σ now → fillFrom σ s ≡ From f
       → Gathered row now (sectionNumber s) f (keyOf s)
-  unfolding pick joined place onward continues
+  unfolding pick joined fillFrom onward continues
   follows row σ now s f t p = from-zero (eqb (sectionNumber s) 0) refl p
     where
       goes-on : (e g : ℕ) (κ : Key) (u : Bool) → continues e κ s ≡ u → OpenRun row now e g κ → pick u (From g) Nowhere ≡ From f
@@ -130,8 +130,8 @@ module _ (c : Settings) (b : List ℕ) where
 
   -- a section that goes on with a run that the row ends in has its place behind that run
   pub placed : (row : List Event) (σ : State) (now s : List ℕ) {κ : Key} (xs : List (List ℕ)) → Track row σ now
-      → EndsIn c b row κ xs → Piece c κ (length xs) s → place σ s ≡ From (length (joined xs))
-  unfolding pick both joined place onward continues
+      → EndsIn c b row κ xs → InRun c κ (length xs) s → fillFrom σ s ≡ From (length (joined xs))
+  unfolding pick both joined fillFrom onward continues
   placed row σ now s [] t e p = rw (eq-eqb (sectionNumber s) 0 (p .numbered))
   placed row Idle now s {κ} (x ∷ xs) t e p =
       let last : keyOf s .last ≡ κ .last = ap (λ (μ : Key). μ .last) (p .agrees) in
@@ -152,7 +152,7 @@ module _ (c : Settings) (b : List ℕ) where
       → f + length (payload s) ≤ room b → length now ≡ length b
       → Gathered (row ++ (section s ∷ [])) (laid f s now) (sectionNumber s + 1) (f + length (payload s)) (keyOf s)
   grown row now s f k g h size =
-      let piece : Piece c (keyOf s) (length (g .sections)) s =
+      let piece : InRun c (keyOf s) (length (g .sections)) s =
       record { receivable = k; numbered = sym (g .count); agrees = refl } in
       record {
         sections = g .sections ++ (s ∷ []);

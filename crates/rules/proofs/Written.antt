@@ -14,7 +14,7 @@ use Rattle.wire.specs.Choice.{pick, both, firstOf}
 use Rattle.wire.proofs.Bytes.{length-bytesOf, numberAt-bytesOf}
 use Rattle.wire.proofs.Choice.{not-either, not-first}
 use Rattle.rules.specs.declared.Address.{Address}
-use Rattle.rules.specs.Check.{addressScrambled, check, checkLines, datagramForm, faultLines, formLines, notCurrent, orderLines, otherTable, outOfOrder, tooShort, wrongCrc, wrongLength, wrongSyntax}
+use Rattle.rules.specs.Check.{addressScrambled, check, checkLines, datagramForm, sharedLines, formLines, notCurrent, orderLines, otherTable, outOfOrder, tooShort, wrongCrc, wrongLength, wrongSyntax}
 use Rattle.rules.specs.Crc.{crc32}
 use Rattle.rules.specs.Section.{address, addressScramblingControl, crcField, currentNextIndicator, header, lastSectionNumber, llcSnapFlag, payload, payloadScramblingControl, privateIndicator, sealed, sectionLength, sectionNumber, sectionOf, sectionSyntaxIndicator, tableId}
 use Rattle.rules.specs.Sound.{Limits, table3, Values}
@@ -29,10 +29,10 @@ pub sealed-right : (s : List ℕ) → wrongCrc (sealed s) ≡ false
 unfolding wrongCrc crcField sealed
 sealed-right s =
     let c : List ℕ = bytesOf 4 (crc32 s) in
-    let place : length (s ++ c) - 4 ≡ length s = omega (arith, sealed-length s) in
+    let index : length (s ++ c) - 4 ≡ length s = omega (arith, sealed-length s) in
     let field : numberAt 4 (s ++ c) (length s) ≡ crc32 s =
     ap (λ (t : List ℕ). numberAt 4 (s ++ t) (length s)) (sym (append-nil c)) ∙ numberAt-bytesOf 4 (crc32 s) s [] ∙ mod-eq-of-lt (crc32-lt s) in
-    rw (place, field, take-at s c (length s) refl, eq-eqb (crc32 s) (crc32 s) refl)
+    rw (index, field, take-at s c (length s) refl, eq-eqb (crc32 s) (crc32 s) refl)
 
 -- ---- byte 5, by its bits
 -- bits 7-6, 5-4, 3-2, 1 and 0 of a byte that is written by them
@@ -139,7 +139,7 @@ module _ (v : Values) where
     no19 = rw (b5 .addressed)
 
     pub written-sound : check (table3 v) ≡ 0
-    unfolding check checkLines faultLines formLines orderLines firstOf
+    unfolding check checkLines sharedLines formLines orderLines firstOf
     written-sound =
         sym (not-first 12 _ no12 (not-first 13 _ no13 (not-first 14 _ no14 (not-first 15 _ no15
         (not-first 16 _ no16 (not-first 17 _ no17 (not-first 18 _ no18 (not-first 19 _ no19 refl))))))))

@@ -50,12 +50,12 @@ unfoldable pub orderLines : List ℕ → List Line
 orderLines s = line 17 (notCurrent s) ∷ line 18 (outOfOrder s) ∷ []
 
 -- the lines that every table shares: 12 to 18
-unfoldable pub faultLines : Form → List ℕ → List Line
-faultLines f s = formLines f s ++ (line 16 (wrongCrc s) ∷ orderLines s)
+unfoldable pub sharedLines : Form → List ℕ → List Line
+sharedLines f s = formLines f s ++ (line 16 (wrongCrc s) ∷ orderLines s)
 
 -- the first of 12 to 18 that applies to a section of this form, else 0
-unfoldable pub fault : Form → List ℕ → ℕ
-fault f s = firstOf (faultLines f s)
+unfoldable pub sharedRefusal : Form → List ℕ → ℕ
+sharedRefusal f s = firstOf (sharedLines f s)
 
 -- the datagram section's form
 abbrev pub datagramForm : Form
@@ -63,7 +63,7 @@ datagramForm = record { fewest = 16; table = 0x3E; private = true }
 
 -- the datagram section's lines: 12 to 19
 unfoldable pub checkLines : List ℕ → List Line
-checkLines s = faultLines datagramForm s ++ (line 19 (addressScrambled s) ∷ [])
+checkLines s = sharedLines datagramForm s ++ (line 19 (addressScrambled s) ∷ [])
 
 -- the first of 12 to 19 that applies to a datagram section, else 0
 unfoldable pub check : List ℕ → ℕ

@@ -46,6 +46,10 @@ unfoldable pub goodState : State → Bool
 goodState Idle = true
 goodState (Open e f κ) = goodRun e (κ .last) f
 
+-- 10 and 11, before a section is looked at
+unfoldable pub setupLines : Settings → State → List Line
+setupLines c σ = line 10 (not (goodSettings c)) ∷ line 11 (not (goodState σ)) ∷ []
+
 -- ---- runs
 -- what a section says of its run
 unfoldable pub keyOf : List ℕ → Key
@@ -59,18 +63,18 @@ unfoldable pub continues : ℕ → Key → List ℕ → Bool
 continues e κ s = both (eqb (sectionNumber s) e) (sameKey (keyOf s) κ)
 
 -- where a payload goes
-pub data Place : Type 0 where
-  Nowhere : Place
-  From : ℕ → Place
+pub data Fill : Type 0 where
+  Nowhere : Fill
+  From : ℕ → Fill
 
 -- behind what the open run has filled
-unfoldable pub onward : State → List ℕ → Place
+unfoldable pub onward : State → List ℕ → Fill
 onward Idle s = Nowhere
 onward (Open e f κ) s = pick (continues e κ s) (From f) Nowhere
 
 -- number 0 starts a run and forgets any open one
-unfoldable pub place : State → List ℕ → Place
-place σ s = pick (eqb (sectionNumber s) 0) (From 0) (onward σ s)
+unfoldable pub fillFrom : State → List ℕ → Fill
+fillFrom σ s = pick (eqb (sectionNumber s) 0) (From 0) (onward σ s)
 
 -- ---- what is tested of a sound section
 -- the bytes of its address that are compared are the own
@@ -85,12 +89,13 @@ payloadScrambled s = not (eqb (payloadScramblingControl s) 0)
 unfoldable pub overLimit : Settings → List ℕ → Bool
 overLimit c s = ltb (c .limit) (lastSectionNumber s + 1)
 
-unfoldable pub barLines : Settings → List ℕ → List Line
-barLines c s = line 20 (payloadScrambled s) ∷ line 21 (overLimit c s) ∷ []
+-- of a section for this address
+unfoldable pub ownLines : Settings → List ℕ → List Line
+ownLines c s = line 20 (payloadScrambled s) ∷ line 21 (overLimit c s) ∷ []
 
 -- the first of 20 and 21 that applies, else 0
-unfoldable pub bar : Settings → List ℕ → ℕ
-bar c s = firstOf (barLines c s)
+unfoldable pub ownRefusal : Settings → List ℕ → ℕ
+ownRefusal c s = firstOf (ownLines c s)
 
 -- the smaller of 65,535 and the buffer's length
 unfoldable pub room : List ℕ → ℕ
@@ -128,15 +133,15 @@ keep f s b =
     (outcome Stored (Open (sectionNumber s + 1) (f + length (payload s)) (keyOf s)) (laid f s b))
 
 -- 22: neither number 0 nor the right continuation; 23: f and the payload are above the room
-unfoldable pub lay : Place → List ℕ → List ℕ → Outcome
+unfoldable pub lay : Fill → List ℕ → List ℕ → Outcome
 lay Nowhere s b = refuse 22 b
 lay (From f) s b = pick (leb (f + length (payload s)) (room b)) (keep f s b) (refuse 23 b)
 
 -- the table of document 01, line by line: 10, 11, 12 to 19, 2, 20, 21, then 22, 23, 1, 0
 unfoldable pub stepOf : Settings → State → List ℕ → List ℕ → Outcome
 stepOf c σ s b =
-    refuseFirst (line 10 (not (goodSettings c)) ∷ line 11 (not (goodState σ)) ∷ []) b
-    (refuseFirst (checkLines s) b (pick (ours c s) (refuseFirst (barLines c s) b (lay (place σ s) s b)) (outcome PassedBy σ b)))
+    refuseFirst (setupLines c σ) b
+    (refuseFirst (checkLines s) b (pick (ours c s) (refuseFirst (ownLines c s) b (lay (fillFrom σ s) s b)) (outcome PassedBy σ b)))
 
 -- a gap notice makes any state idle
 unfoldable pub gapOf : State → State

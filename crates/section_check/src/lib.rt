@@ -15,7 +15,7 @@ use wire::either;
 use wire::first;
 ghost use mathlib.Core.Path.{_≡_};
 ghost use Rattle.wire.specs.Choice.{firstOf};
-ghost use Rattle.rules.specs.Check.{tooShort, otherTable, wrongLength, wrongSyntax, wrongCrc, notCurrent, outOfOrder, addressScrambled, formLines, orderLines, fault, datagramForm, check};
+ghost use Rattle.rules.specs.Check.{tooShort, otherTable, wrongLength, wrongSyntax, wrongCrc, notCurrent, outOfOrder, addressScrambled, formLines, orderLines, sharedRefusal, datagramForm, check};
 
 fn too_short(form: Form, s: &[u8]) -> bool
     ensures { λ r. ⌜ r ≡ tooShort form (now (s .entry)) ⌝ }
@@ -68,7 +68,7 @@ fn address_scrambled(s: &[u8]) -> bool
 }
 
 // The first of 12 to 15 that applies, else 0.
-fn form_fault(form: Form, s: &[u8]) -> u8
+fn form_refusal(form: Form, s: &[u8]) -> u8
     ensures { λ r. ⌜ r ≡ firstOf (formLines form (now (s .entry))) ⌝ }
 {
     let syntax = first(wrong_syntax(form, s), 15, 0);
@@ -78,24 +78,24 @@ fn form_fault(form: Form, s: &[u8]) -> u8
 }
 
 // The first of 17 and 18 that applies, else 0.
-fn order_fault(s: &[u8]) -> u8
+fn order_refusal(s: &[u8]) -> u8
     ensures { λ r. ⌜ r ≡ firstOf (orderLines (now (s .entry))) ⌝ }
 {
     first(not_current(s), 17, first(out_of_order(s), 18, 0))
 }
 
 // The first of 12 to 18 that applies to a section of this form, else 0. The CRC_32 is computed only where 12 to 15 leave it to.
-pub fn fault(form: Form, s: &[u8]) -> u8
-    ensures { λ r. ⌜ r ≡ fault form (now (s .entry)) ⌝ }
+pub fn shared_refusal(form: Form, s: &[u8]) -> u8
+    ensures { λ r. ⌜ r ≡ sharedRefusal form (now (s .entry)) ⌝ }
 {
-    let number = form_fault(form, s);
+    let number = form_refusal(form, s);
     if number != 0 {
         return number;
     }
     if wrong_crc(s) {
         return 16;
     }
-    order_fault(s)
+    order_refusal(s)
 }
 
 // The datagram section's form.
@@ -113,7 +113,7 @@ fn datagram_form() -> Form
 pub fn check(s: &[u8]) -> u8
     ensures { λ r. ⌜ r ≡ check (now (s .entry)) ⌝ }
 {
-    let number = fault(datagram_form(), s);
+    let number = shared_refusal(datagram_form(), s);
     if number != 0 {
         return number;
     }

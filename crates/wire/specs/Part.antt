@@ -6,14 +6,14 @@ use denote.Ref.{RefT, ptr, now}
 
 -- the part's bytes, and the place of the first of them, counted from the slice's first byte
 pub record Part : Type 0 where
-  pub place : ℕ
+  pub offset : ℕ
   pub bytes : List ℕ
 
 abbrev pub part : ℕ → List ℕ → Part
-part o b = record { place = o; bytes = b }
+part o b = record { offset = o; bytes = b }
 
 -- r is this part of the slice that begins at `start`, an address: a block of memory and a place in it
 pub record Is (start : ℕ × ℕ) (p : Part) (r : RefT (List ℕ)) : Type 0 where
   pub bytes : now r ≡ p .bytes
   pub block : r .ptr .0 ≡ start .0
-  pub place : r .ptr .1 ≡ p .place + start .1
+  pub offset : r .ptr .1 ≡ p .offset + start .1

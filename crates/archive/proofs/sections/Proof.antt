@@ -6,7 +6,7 @@ use lib.Seq.{length-take-le}
 use denote.Ref.{now}
 use Rattle.wire.proofs.Choice.{was}
 use Rattle.rules.specs.Send.{defaultPiece}
-use Rattle.rules.proofs.Send.{given-fits}
+use Rattle.rules.proofs.Send.{sent-all-fits}
 use Rattle.rules.specs.Recording.{listingSettings}
 use Rattle.archive.proofs.Says.{says-sent, says-unsent}
 use borrow.Author.Needs.{needs}
@@ -16,8 +16,8 @@ use Rattle.archive.proofs.sections.Tie as tie
 listing-settings-requires : tie.Need-listing-settings-requires
 listing-settings-requires c κs = search needs
 
-send-by-default-requires : tie.Need-send-by-default-requires
-send-by-default-requires c κs = search needs
+send-by-deshared-refusal-requires : tie.Need-send-by-deshared-refusal-requires
+send-by-deshared-refusal-requires c κs = search needs
 
 enum-known-length : tie.Need-enum-known-length
 enum-known-length c = search needs
@@ -27,7 +27,7 @@ slice-aggregate-result c =
     let r = c .before .before .before .before .before .before in
     let a = r .before .before .before .before .before .args in
     let s = rw (r .before .before .listing-settings .ensures) at (r .send-by-default .ensures) in
-    let fits = given-fits listingSettings false defaultPiece (now (a .unit)) (now (a .out)) _ (was (s .sending) (c .before .before .length .given .1)) in
+    let fits = sent-all-fits listingSettings false defaultPiece (now (a .unit)) (now (a .out)) _ (was (s .sending) (c .before .before .length .given .1)) in
     sym (length-take-le _ _ (omega (arith, fits)))
 
 enum-known-refusal : tie.Need-enum-known-refusal
@@ -51,7 +51,7 @@ sections-spec =
     tie.close
     (tie.spec
     listing-settings-requires
-    send-by-default-requires
+    send-by-deshared-refusal-requires
     enum-known-length
     slice-aggregate-result
     enum-known-refusal

@@ -23,7 +23,7 @@ returns : tie.Need-returns
 returns c =
     let found = c .before .before in
     let e = found .notice .ensures ∙ ap (λ (a : Address). noticeOf a (now (found .before .before .before .args .s))) (found .before .address-of .ensures) in
-    record { number = c .notice-number .ensures ∙ ap noticeNumber e; place = c .before .notice-place .ensures ∙ ap noticePlace e }
+    record { number = c .notice-number .ensures ∙ ap noticeNumber e; offset = c .before .notice-place .ensures ∙ ap noticePlace e }
 
 pub fossknut-notification-spec : {M : Type 1} → statement M
 fossknut-notification-spec =

@@ -1,5 +1,5 @@
 -- What is written is read off the step that `receive` made from the state that the numbers meant.
-use Rattle.fossknut.proofs.Given.{given}
+use Rattle.fossknut.proofs.Told.{receive-told}
 use borrow.Author.Needs.{needs}
 use Rattle.fossknut.proofs.fossknut_receive.Statement.{statement}
 use Rattle.fossknut.proofs.fossknut_receive.Tie as tie
@@ -29,7 +29,7 @@ returns : tie.Need-returns
 returns c =
     let stepped = c .before .before .before .before .before .before .before .before .before .before in
     let meant = stepped .before .before in
-    given _ (stepped .receive .result) (rw (meant .state-of .ensures, meant .before .before .before .before .before .before .settings-of .ensures) at (stepped .receive .ensures))
+    receive-told _ (stepped .receive .result) (rw (meant .state-of .ensures, meant .before .before .before .before .before .before .settings-of .ensures) at (stepped .receive .ensures))
     (c .number-of .ensures) (c .before .length-of .ensures) (c .before .before .put .ensures)
 
 pub fossknut-receive-spec : {M : Type 1} → statement M

@@ -1,5 +1,5 @@
 -- The wrapped function gives the outcome, and its number and length are read off it.
-use Rattle.fossknut.proofs.Given.{gives}
+use Rattle.fossknut.proofs.Told.{send-told}
 use borrow.Author.Needs.{needs}
 use Rattle.fossknut.proofs.fossknut_send.Statement.{statement}
 use Rattle.fossknut.proofs.fossknut_send.Tie as tie
@@ -22,7 +22,7 @@ same-length c = search needs
 returns : tie.Need-returns
 returns c =
     let sent = c .before .before .before .before in
-    gives (rw (sent .before .before .settings-of .ensures) at (sent .send .ensures))
+    send-told (rw (sent .before .before .settings-of .ensures) at (sent .send .ensures))
     (c .sending-number .ensures) (c .before .sending-length .ensures)
 
 pub fossknut-send-spec : {M : Type 1} → statement M

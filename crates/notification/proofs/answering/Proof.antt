@@ -30,7 +30,7 @@ returns : tie.Need-returns
 returns c = let L = c .before .before .loop-at in
     let h = c .before .before .before .before .args .head in
     let n : 14 + length (now (L .result)) ≡ pairsPlace (now h) = omega (arith, L .ensures .size) in
-    let g = located-test (h .ptr) _ _ (c .before .location .ensures (h .ptr) 14 (record { bytes = refl; block = L .ensures .is .block; place = L .ensures .is .place }))
+    let g = located-test (h .ptr) _ _ (c .before .location .ensures (h .ptr) 14 (record { bytes = refl; block = L .ensures .is .block; offset = L .ensures .is .offset }))
     ∙ general-is (now h) (now (L .result)) (L .ensures .is .bytes) in
     rw (n, g) at (c .search .ensures)
 

@@ -53,7 +53,7 @@ returns c = let a = c .before .before .before .before .args in
     let n = c .before .loop-size .result in
     let e : n ≡ loopSize (drop (a .at) (now (a .s))) = c .before .loop-size .ensures .is ∙ rw (from (a .at) (now (a .s))) in
     record {
-      is = record { bytes = content-at (now (a .s)) (a .at) n e; block = refl; place = refl };
+      is = record { bytes = content-at (now (a .s)) (a .at) n e; block = refl; offset = refl };
       size = content-length (now (a .s)) (a .at) n e (c .before .before .before .before .pre);
     }
 

@@ -2,8 +2,8 @@
 use Rattle.wire.specs.Choice.{firstOf}
 use Rattle.notification_rules.specs.Notice.{platformLines}
 use borrow.Author.Needs.{needs}
-use Rattle.notification.proofs.platform_fault.Statement.{statement}
-use Rattle.notification.proofs.platform_fault.Tie as tie
+use Rattle.notification.proofs.platform_refusal.Statement.{statement}
+use Rattle.notification.proofs.platform_refusal.Tie as tie
 
 other-action-requires : tie.Need-other-action-requires
 other-action-requires c κs = search needs
@@ -21,7 +21,7 @@ returns : tie.Need-returns
 unfolding platformLines firstOf
 returns c = cc
 
-pub platform-fault-spec : {M : Type 1} → statement M
-platform-fault-spec =
+pub platform-refusal-spec : {M : Type 1} → statement M
+platform-refusal-spec =
     tie.close
     (tie.spec other-action-requires wrong-hash-requires first-requires first-requires-2 returns)

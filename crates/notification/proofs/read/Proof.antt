@@ -78,8 +78,8 @@ returns-3 c = let A = c .before .before .before .before .before .before .before 
     let O = c .before .loop-at3 in
     let m : Q .result + 2 + length (now (T .result)) ≡ Q .result + loopSize (drop (Q .result) (now (H .result))) = omega (arith, T .ensures .size) in
     let p = c .pick .ensures (A .s .ptr) (Q .result + 2 + length (now (T .result)) + 2) 14
-    (record { bytes = refl; block = O .ensures .is .block ∙ H .ensures .block; place = omega (arith, O .ensures .is .place, H .ensures .place) })
-    (record { bytes = refl; block = L .ensures .is .block ∙ H .ensures .block; place = omega (arith, L .ensures .is .place, H .ensures .place) }) in
+    (record { bytes = refl; block = O .ensures .is .block ∙ H .ensures .block; offset = omega (arith, O .ensures .is .offset, H .ensures .offset) })
+    (record { bytes = refl; block = L .ensures .is .block ∙ H .ensures .block; offset = omega (arith, L .ensures .is .offset, H .ensures .offset) }) in
     let a = found-given (A .device) (now (A .s)) (now (H .result)) (H .ensures .bytes) z _ (Q .ensures) l (A .s .ptr) _
     (rw (location-is (now (H .result)) (now (L .result)) (now (O .result)) (Q .result) _ m (L .ensures .is .bytes) (O .ensures .is .bytes)) at p) in
     record { number = a .0; part = a .1 }

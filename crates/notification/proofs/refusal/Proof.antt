@@ -4,7 +4,7 @@ use Rattle.notification.proofs.Faults.{loops-told}
 use Rattle.notification.specs.Readers.{loopFault}
 use Rattle.notification_rules.specs.Notice.{notificationForm, platformLines, refusal}
 use Rattle.rules.proofs.Check.{fault-numbered}
-use Rattle.rules.specs.Check.{faultLines, fault}
+use Rattle.rules.specs.Check.{sharedLines, fault}
 use Rattle.rules.specs.declared.Form.{Form}
 use Rattle.wire.proofs.Choice.{firstOf-here, firstOf-past, was}
 use denote.Ref.{now}
@@ -27,20 +27,20 @@ returns : tie.Need-returns
 unfolding fault refusal
 returns c = let s = now (c .before .before .before .before .args .s) in
     let e = c .before .fault .ensures ∙ ap (λ (f : Form). fault f s) (c .before .before .notification-form .ensures) in
-    e ∙ sym (firstOf-here (faultLines notificationForm s) _ (λ z. c .if1 .taken (e ∙ z)))
+    e ∙ sym (firstOf-here (sharedLines notificationForm s) _ (λ z. c .if1 .taken (e ∙ z)))
 
-platform-fault-requires : tie.Need-platform-fault-requires
-platform-fault-requires c κs = search needs
+platform-refusal-requires : tie.Need-platform-refusal-requires
+platform-refusal-requires c κs = search needs
 
 returns-2 : tie.Need-returns-2
 unfolding fault refusal
 returns-2 c = let s = now (c .before .before .before .before .before .before .args .s) in
     let f = c .before .before .before in
     let e = f .fault .ensures ∙ ap (λ (f : Form). fault f s) (f .before .notification-form .ensures) in
-    let p = c .before .platform-fault .ensures in
+    let p = c .before .platform-refusal .ensures in
     p
     ∙ sym (firstOf-here (platformLines s) _ (λ z. c .if2 .taken (p ∙ z)))
-    ∙ sym (firstOf-past (faultLines notificationForm s) _ (fault-numbered notificationForm s)
+    ∙ sym (firstOf-past (sharedLines notificationForm s) _ (fault-numbered notificationForm s)
     (was e (c .before .before .if1 .left)))
 
 checked-requires : tie.Need-checked-requires
@@ -57,13 +57,13 @@ unfolding fault refusal
 returns-3 c = let s = now (c .before .before .before .before .before .before .before .before .before .args .s) in
     let f = c .before .before .before .before .before .before in
     let e = f .fault .ensures ∙ ap (λ (f : Form). fault f s) (f .before .notification-form .ensures) in
-    let p = c .before .before .before .before .platform-fault .ensures in
+    let p = c .before .before .before .before .platform-refusal .ensures in
     c .operational-loop .ensures
     ∙ ap (λ (l : List ℕ). loopFault true l false) (c .before .behind .ensures .bytes
     ∙ ap (λ (l : List ℕ). drop 12 l) (c .before .before .checked .ensures .bytes))
     ∙ loops-told s
     ∙ sym (firstOf-past (platformLines s) _ (platform-numbered s) (was p (c .before .before .before .if2 .left)))
-    ∙ sym (firstOf-past (faultLines notificationForm s) _ (fault-numbered notificationForm s)
+    ∙ sym (firstOf-past (sharedLines notificationForm s) _ (fault-numbered notificationForm s)
     (was e (c .before .before .before .before .before .if1 .left)))
 
 pub refusal-spec : {M : Type 1} → statement M
@@ -73,7 +73,7 @@ refusal-spec =
     notification-form-requires
     fault-requires
     returns
-    platform-fault-requires
+    platform-refusal-requires
     returns-2
     checked-requires
     behind-requires

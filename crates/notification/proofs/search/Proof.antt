@@ -372,7 +372,7 @@ pairs-again c = let A = c .before .before .before .before .before .before .befor
     let told = c .before .either .ensures
     ∙ ap (λ (t : Bool). either t (A .general)) (located-test (A .s .ptr) _ _
     (c .before .before .location .ensures (A .s .ptr) _
-    (record { bytes = refl; block = H2 .ensures .is .block; place = H2 .ensures .is .place }))) in
+    (record { bytes = refl; block = H2 .ensures .is .block; offset = H2 .ensures .is .offset }))) in
     let f : P .at + 4 + length (now (H1 .result)) + length (now (H2 .result))
     ≡ P .at + 2 + length (now (H1 .result)) + loopSize (drop (P .at + 2 + length (now (H1 .result))) S) = omega
     (arith, H2 .ensures .size) in
@@ -410,7 +410,7 @@ returns-2 c = let A = c .before .before .before .before .before .before .before 
     let told = c .before .before .either .ensures
     ∙ ap (λ (t : Bool). either t (A .general)) (located-test (A .s .ptr) _ _
     (c .before .before .before .location .ensures (A .s .ptr) _
-    (record { bytes = refl; block = H2 .ensures .is .block; place = H2 .ensures .is .place }))) in
+    (record { bytes = refl; block = H2 .ensures .is .block; offset = H2 .ensures .is .offset }))) in
     let f : P .at + 4 + length (now (H1 .result)) + length (now (H2 .result))
     ≡ P .at + 2 + length (now (H1 .result)) + loopSize (drop (P .at + 2 + length (now (H1 .result))) S) = omega
     (arith, H2 .ensures .size) in
@@ -439,7 +439,7 @@ returns-3 c = let A = c .before .before .before .before .before .before .before 
     ∙ ap (λ (t : Bool). either t (A .general)) (located-test (A .s .ptr) _ _
     (c .before .before .before .before .before .before .before .before .before .before .before .before .before .before
     .before .location .ensures (A .s .ptr) _ (record
-    { bytes = refl; block = H2 .ensures .is .block; place = H2 .ensures .is .place }))) in
+    { bytes = refl; block = H2 .ensures .is .block; offset = H2 .ensures .is .offset }))) in
     let f : P .at + 4 + length (now (H1 .result)) + length (now (H2 .result))
     ≡ P .at + 2 + length (now (H1 .result)) + loopSize (drop (P .at + 2 + length (now (H1 .result))) S) = omega
     (arith, H2 .ensures .size) in

@@ -9,8 +9,8 @@ use Rattle.pes.proofs.output_data_rate.Tie as tie
 output-data-rate-flag-requires : tie.Need-output-data-rate-flag-requires
 output-data-rate-flag-requires c κs = search needs
 
-rate-place-requires : tie.Need-rate-place-requires
-rate-place-requires c κs = search needs
+rate-offset-requires : tie.Need-rate-offset-requires
+rate-offset-requires c κs = search needs
 
 u32-at-requires : tie.Need-u32-at-requires
 u32-at-requires c κs = search needs
@@ -22,7 +22,7 @@ returns : tie.Need-returns
 unfolding flagged
 returns c =
     let flag = was (c .before .before .before .output-data-rate-flag .ensures) (c .before .before .if1 .taken) in
-    yes-pick _ 0 flag (rw (c .u32-at .ensures .is, c .before .rate-place .ensures .is))
+    yes-pick _ 0 flag (rw (c .u32-at .ensures .is, c .before .rate-offset .ensures .is))
 
 returns-2 : tie.Need-returns-2
 unfolding flagged
@@ -33,7 +33,7 @@ output-data-rate-spec =
     tie.close
     (tie.spec
     output-data-rate-flag-requires
-    rate-place-requires
+    rate-offset-requires
     u32-at-requires
     cast-result
     returns

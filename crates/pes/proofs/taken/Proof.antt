@@ -15,8 +15,8 @@ pts-extension-requires c κs = search needs
 output-data-rate-requires : tie.Need-output-data-rate-requires
 output-data-rate-requires c κs = search needs
 
-data-place-requires : tie.Need-data-place-requires
-data-place-requires c κs = search needs
+data-offset-requires : tie.Need-data-offset-requires
+data-offset-requires c κs = search needs
 
 returns : tie.Need-returns
 returns c =
@@ -25,7 +25,7 @@ returns c =
     let rated = extension .before in
     let extended = rated .before in
     rw (extended .pts-extension-flag .ensures, rated .output-data-rate-flag .ensures)
-    (rw (extension .pts-extension .ensures, rate .output-data-rate .ensures, c .data-place .ensures))
+    (rw (extension .pts-extension .ensures, rate .output-data-rate .ensures, c .data-offset .ensures))
 
 pub taken-spec : {M : Type 1} → statement M
 taken-spec =
@@ -35,5 +35,5 @@ taken-spec =
     output-data-rate-flag-requires
     pts-extension-requires
     output-data-rate-requires
-    data-place-requires
+    data-offset-requires
     returns)

@@ -3,7 +3,7 @@ use mathlib.Core.Path.{_∙_}
 use borrow.Author.Tests.{eq-eqb, ne-eqb}
 use Rattle.wire.specs.Choice.{pick}
 use Rattle.wire.proofs.Choice.{was}
-use Rattle.rules.specs.Step.{place}
+use Rattle.rules.specs.Step.{fillFrom}
 use borrow.Author.Needs.{needs}
 use Rattle.receiver.proofs.accept.Statement.{statement}
 use Rattle.receiver.proofs.accept.Tie as tie
@@ -18,7 +18,7 @@ same-length : tie.Need-same-length
 same-length c = search needs
 
 returns : tie.Need-returns
-unfolding place pick
+unfolding fillFrom pick
 returns c =
     let zero = c .before .before .before .before in
     rw (eq-eqb _ _ (was (zero .before .section-number .ensures) (zero .if1 .taken))) (c .before .before .lay .ensures)
@@ -30,7 +30,7 @@ same-length-2 : tie.Need-same-length-2
 same-length-2 c = search needs
 
 returns-2 : tie.Need-returns-2
-unfolding place pick
+unfolding fillFrom pick
 returns-2 c =
     let other = c .before .before .before .before in
     rw (ne-eqb _ _ (λ z. other .if1 .left (other .before .section-number .ensures ∙ z))) (c .before .before .continue-run .ensures)

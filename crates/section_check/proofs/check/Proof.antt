@@ -5,8 +5,8 @@ use denote.Ref.{now}
 use Rattle.wire.specs.Choice.{first, firstOf}
 use Rattle.wire.proofs.Choice.{firstOf-here, firstOf-past, was}
 use Rattle.rules.specs.declared.Form.{Form}
-use Rattle.rules.specs.Check.{faultLines, fault, datagramForm, checkLines, check}
-use Rattle.rules.proofs.Check.{fault-numbered}
+use Rattle.rules.specs.Check.{sharedLines, sharedRefusal, datagramForm, checkLines, check}
+use Rattle.rules.proofs.Check.{shared-numbered}
 use borrow.Author.Needs.{needs}
 use Rattle.section_check.proofs.check.Statement.{statement}
 use Rattle.section_check.proofs.check.Tie as tie
@@ -14,15 +14,15 @@ use Rattle.section_check.proofs.check.Tie as tie
 datagram-form-requires : tie.Need-datagram-form-requires
 datagram-form-requires c κs = search needs
 
-fault-requires : tie.Need-fault-requires
-fault-requires c κs = search needs
+shared-refusal-requires : tie.Need-shared-refusal-requires
+shared-refusal-requires c κs = search needs
 
 returns : tie.Need-returns
-unfolding fault check checkLines
+unfolding sharedRefusal check checkLines
 returns c =
     let s = now (c .before .before .before .before .args .s) in
-    let e = c .before .fault .ensures ∙ ap (λ (f : Form). fault f s) (c .before .before .datagram-form .ensures) in
-    e ∙ sym (firstOf-here (faultLines datagramForm s) _ (λ z. c .if1 .taken (e ∙ z)))
+    let e = c .before .shared-refusal .ensures ∙ ap (λ (f : Form). sharedRefusal f s) (c .before .before .datagram-form .ensures) in
+    e ∙ sym (firstOf-here (sharedLines datagramForm s) _ (λ z. c .if1 .taken (e ∙ z)))
 
 address-scrambled-requires : tie.Need-address-scrambled-requires
 address-scrambled-requires c κs = search needs
@@ -31,21 +31,21 @@ first-requires : tie.Need-first-requires
 first-requires c κs = search needs
 
 returns-2 : tie.Need-returns-2
-unfolding fault check checkLines firstOf
+unfolding sharedRefusal check checkLines firstOf
 returns-2 c =
     let f = c .before .before .before in
     let s = now (f .before .before .before .args .s) in
-    let e = f .fault .ensures ∙ ap (λ (f : Form). fault f s) (f .before .datagram-form .ensures) in
+    let e = f .shared-refusal .ensures ∙ ap (λ (f : Form). sharedRefusal f s) (f .before .datagram-form .ensures) in
     c .first .ensures
     ∙ ap (λ (t : Bool). first t 19 0) (c .before .address-scrambled .ensures)
-    ∙ sym (firstOf-past (faultLines datagramForm s) _ (fault-numbered datagramForm s) (was e (c .before .before .if1 .left)))
+    ∙ sym (firstOf-past (sharedLines datagramForm s) _ (shared-numbered datagramForm s) (was e (c .before .before .if1 .left)))
 
 pub check-spec : {M : Type 1} → statement M
 check-spec =
     tie.close
     (tie.spec
     datagram-form-requires
-    fault-requires
+    shared-refusal-requires
     returns
     address-scrambled-requires
     first-requires

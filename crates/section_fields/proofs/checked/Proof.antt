@@ -15,7 +15,7 @@ slice-aggregate-result c = search needs
 returns : tie.Need-returns
 returns c = let s = now (c .before .before .args .s) in
     let e : 0 ≡ length s - 4 = omega arith in
-    record { bytes = ap (λ (k : ℕ). take k s) e; block = refl; place = omega arith }
+    record { bytes = ap (λ (k : ℕ). take k s) e; block = refl; offset = omega arith }
 
 sub-result : tie.Need-sub-result
 sub-result c = search needs
@@ -24,7 +24,7 @@ slice-aggregate-result-2 : tie.Need-slice-aggregate-result-2
 slice-aggregate-result-2 c = sym (length-take-le _ (now (c .before .before .args .s)) (omega arith))
 
 returns-2 : tie.Need-returns-2
-returns-2 c = record { bytes = refl; block = refl; place = omega arith }
+returns-2 c = record { bytes = refl; block = refl; offset = omega arith }
 
 pub checked-spec : {M : Type 1} → statement M
 checked-spec =

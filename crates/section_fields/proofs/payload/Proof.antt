@@ -22,7 +22,7 @@ returns c =
     let s = now (c .before .before .args .s) in
     let none : length s - 4 - 12 ≡ 0 = omega (arith, c .before .if1 .taken) in
     let first : _≡_ {A = ℕ} 0 (pick (ltb (length s) 16) 0 12) = yes-pick 0 12 (lt-ltb _ 16 (c .before .if1 .taken)) refl in
-    record { bytes = rw none; block = refl; place = omega (arith, first) }
+    record { bytes = rw none; block = refl; offset = omega (arith, first) }
 
 sub-end : tie.Need-sub-end
 sub-end c = search needs
@@ -41,7 +41,7 @@ unfolding payload
 returns-2 c =
     let s = now (c .before .before .args .s) in
     let first : _≡_ {A = ℕ} 12 (pick (ltb (length s) 16) 0 12) = not-pick 0 12 (le-ltb _ 16 (c .before .if1 .left)) refl in
-    record { bytes = refl; block = refl; place = omega (arith, first) }
+    record { bytes = refl; block = refl; offset = omega (arith, first) }
 
 pub payload-spec : {M : Type 1} → statement M
 payload-spec =

@@ -83,7 +83,7 @@ from-location-returns : (t : ℕ) → from-location-lts.Need-returns (
   from-location.Post,
 ) (from-location-at t) from-location.Post
 from-location-returns t c = let s = c .before .before .before .before .args .s in
-    reaches-end s _ _ (c .before .before .descriptor-size .ensures .is) (c .before .if1 .taken) (record { bytes = from (length (now s)) (now s); block = refl; place = refl })
+    reaches-end s _ _ (c .before .before .descriptor-size .ensures .is) (c .before .if1 .taken) (record { bytes = from (length (now s)) (now s); block = refl; offset = refl })
 
 from-location-byte-at-requires : (t : ℕ) → from-location-lts.Need-byte-at-requires (
   descriptor-size-reads.Asked,
@@ -156,7 +156,7 @@ from-location-returns-3 : (t : ℕ) → from-location-lts.Need-returns-3 (
 from-location-returns-3 t c = let s = c .before .before .before .before .before .before .before .args .s in
     let n = c .before .before .before .before .before .descriptor-size in
     reaches-more s _ (n .result) (n .ensures .is) (omega arith) (λ z. c .before .before .if2 .left (c .before .before .before .byte-at .ensures .is ∙ z))
-    _ (record { bytes = from (n .result) (now s); block = refl; place = refl }) (c .from-location .ensures)
+    _ (record { bytes = from (n .result) (now s); block = refl; offset = refl }) (c .from-location .ensures)
 
 pub +from-location-spec : {M : Type 1} → statement M
 +from-location-spec = close μ-from-location λ t. from-location-lts.spec (

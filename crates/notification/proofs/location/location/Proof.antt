@@ -25,7 +25,7 @@ slice-aggregate-result-2 c = sym (length-take-le _ (now (c .before .before .befo
 
 returns-2 : tie.Need-returns-2
 returns-2 c = λ start o i. found-some start o _ _ _ _ (c .before .before .descriptor-size .ensures .is) (c .before .before .before .from-location .ensures) (omega arith) i
-    (record { bytes = refl; block = refl; place = omega arith })
+    (record { bytes = refl; block = refl; offset = omega arith })
 
 pub location-spec : {M : Type 1} → statement M
 location-spec =

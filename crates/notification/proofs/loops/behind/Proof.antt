@@ -16,7 +16,7 @@ slice-aggregate-result c = search needs
 returns : tie.Need-returns
 returns c = let a = c .before .before .args in
     let l : length (now (a .s)) ≤ a .k = omega arith in
-    record { bytes = sym (drop-of-length-le (now (a .s)) l); place = λ h. absurd (omega (arith, h, c .before .if1 .taken)) }
+    record { bytes = sym (drop-of-length-le (now (a .s)) l); offset = λ h. absurd (omega (arith, h, c .before .if1 .taken)) }
 
 sub-result : tie.Need-sub-result
 sub-result c = search needs
@@ -30,7 +30,7 @@ part-result-end c = search needs
 returns-2 : tie.Need-returns-2
 returns-2 c = let a = c .before .before .args in
     let e = from (a .k) (now (a .s)) in
-    record { bytes = e; place = λ h. record { bytes = e; block = refl; place = refl } }
+    record { bytes = e; offset = λ h. record { bytes = e; block = refl; offset = refl } }
 
 pub behind-spec : {M : Type 1} → statement M
 behind-spec =

@@ -1,10 +1,10 @@
 -- The code computes the definition.
 use borrow.Author.Needs.{needs}
-use Rattle.pes.proofs.private_place.Statement.{statement}
-use Rattle.pes.proofs.private_place.Tie as tie
+use Rattle.pes.proofs.private_offset.Statement.{statement}
+use Rattle.pes.proofs.private_offset.Tie as tie
 
-rate-place-requires : tie.Need-rate-place-requires
-rate-place-requires c κs = search needs
+rate-offset-requires : tie.Need-rate-offset-requires
+rate-offset-requires c κs = search needs
 
 output-data-rate-flag-requires : tie.Need-output-data-rate-flag-requires
 output-data-rate-flag-requires c κs = search needs
@@ -16,13 +16,13 @@ add-result : tie.Need-add-result
 add-result c = search needs
 
 returns : tie.Need-returns
-returns c = rw (c .flagged .ensures .is, c .before .output-data-rate-flag .ensures, c .before .before .rate-place .ensures .is)
+returns c = rw (c .flagged .ensures .is, c .before .output-data-rate-flag .ensures, c .before .before .rate-offset .ensures .is)
 
-pub private-place-spec : {M : Type 1} → statement M
-private-place-spec =
+pub private-offset-spec : {M : Type 1} → statement M
+private-offset-spec =
     tie.close
     (tie.spec
-    rate-place-requires
+    rate-offset-requires
     output-data-rate-flag-requires
     flagged-requires
     add-result

@@ -1,8 +1,8 @@
 -- The code computes the definition.
 use Rattle.wire.specs.Choice.{firstOf}
 use borrow.Author.Needs.{needs}
-use Rattle.pes.proofs.fault.Statement.{statement}
-use Rattle.pes.proofs.fault.Tie as tie
+use Rattle.pes.proofs.refusal.Statement.{statement}
+use Rattle.pes.proofs.refusal.Tie as tie
 
 wrong-header-length-requires : tie.Need-wrong-header-length-requires
 wrong-header-length-requires c κs = search needs
@@ -32,8 +32,8 @@ returns : tie.Need-returns
 unfolding firstOf
 returns c = cc
 
-pub fault-spec : {M : Type 1} → statement M
-fault-spec =
+pub refusal-spec : {M : Type 1} → statement M
+refusal-spec =
     tie.close
     (tie.spec
     wrong-header-length-requires

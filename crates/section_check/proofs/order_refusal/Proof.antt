@@ -2,8 +2,8 @@
 use Rattle.rules.specs.Check.{orderLines}
 use Rattle.wire.specs.Choice.{firstOf}
 use borrow.Author.Needs.{needs}
-use Rattle.section_check.proofs.order_fault.Statement.{statement}
-use Rattle.section_check.proofs.order_fault.Tie as tie
+use Rattle.section_check.proofs.order_refusal.Statement.{statement}
+use Rattle.section_check.proofs.order_refusal.Tie as tie
 
 not-current-requires : tie.Need-not-current-requires
 not-current-requires c κs = search needs
@@ -21,7 +21,7 @@ returns : tie.Need-returns
 unfolding orderLines firstOf
 returns c = cc
 
-pub order-fault-spec : {M : Type 1} → statement M
-order-fault-spec =
+pub order-refusal-spec : {M : Type 1} → statement M
+order-refusal-spec =
     tie.close
     (tie.spec not-current-requires out-of-order-requires first-requires first-requires-2 returns)

@@ -11,14 +11,14 @@ use Rattle.caller_numbers.specs.Numbers.{flagNumber, Numbers, numbersOf}
 
 -- of the receiver: the answer's number, the unit length, the numbers of the state, and the buffer. They are a state's numbers whatever
 -- numbers were given, also where the state is as given (2): run and flag are 0 or 1, and idle has zeros
-pub record Given (o : Outcome) (r l : ℕ) (n : Numbers) (b : List ℕ) : Type 0 where
+pub record ReceiveTold (o : Outcome) (r l : ℕ) (n : Numbers) (b : List ℕ) : Type 0 where
   pub answer : r ≡ numberOf (o .step .answer)
   pub unit : l ≡ lengthOf (o .step .answer)
   pub state : n ≡ numbersOf (o .step .state)
   pub buffer : b ≡ o .buffer
 
 -- of the sender: the number, the total length, and the output
-pub record Gives (o : SendOutcome) (r l : ℕ) (out : List ℕ) : Type 0 where
+pub record SendTold (o : SendOutcome) (r l : ℕ) (out : List ℕ) : Type 0 where
   pub number : r ≡ sendingNumber (o .sending)
   pub length : l ≡ sendingLength (o .sending)
   pub output : out ≡ o .output
@@ -26,10 +26,10 @@ pub record Gives (o : SendOutcome) (r l : ℕ) (out : List ℕ) : Type 0 where
 -- of the INT reader: the number and the place
 pub record Noticed (o : Notice) (r p : ℕ) : Type 0 where
   pub number : r ≡ noticeNumber o
-  pub place : p ≡ noticePlace o
+  pub offset : p ≡ noticePlace o
 
 -- of the PES reader: the answer, both flags, both values, and the place and the length of the data
-pub record Told (o : Reading) (r e d x v p n : ℕ) : Type 0 where
+pub record PacketTold (o : Reading) (r e d x v p n : ℕ) : Type 0 where
   pub answer : r ≡ o .answer
   pub extended : e ≡ flagNumber (o .extended)
   pub rated : d ≡ flagNumber (o .rated)

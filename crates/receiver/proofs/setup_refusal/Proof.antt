@@ -1,8 +1,10 @@
 -- The code computes the definition.
 use mathlib.Core.Path.{_∙_}
+use Rattle.wire.specs.Choice.{firstOf}
+use Rattle.rules.specs.Step.{setupLines}
 use borrow.Author.Needs.{needs}
-use Rattle.receiver.proofs.unfit.Statement.{statement}
-use Rattle.receiver.proofs.unfit.Tie as tie
+use Rattle.receiver.proofs.setup_refusal.Statement.{statement}
+use Rattle.receiver.proofs.setup_refusal.Tie as tie
 
 good-settings-requires : tie.Need-good-settings-requires
 good-settings-requires c κs = search needs
@@ -17,11 +19,12 @@ first-requires-2 : tie.Need-first-requires-2
 first-requires-2 c κs = search needs
 
 returns : tie.Need-returns
+unfolding firstOf setupLines
 returns c =
     let states = c .before .before in
     c .first2 .ensures ∙ rw (c .before .first .ensures, states .good-state .ensures, states .before .good-settings .ensures)
 
-pub unfit-spec : {M : Type 1} → statement M
-unfit-spec =
+pub setup-refusal-spec : {M : Type 1} → statement M
+setup-refusal-spec =
     tie.close
     (tie.spec good-settings-requires good-state-requires first-requires first-requires-2 returns)

@@ -1,11 +1,11 @@
 -- The code computes the definition.
 use mathlib.Core.Path.{_∙_}
-use Rattle.rules.specs.Step.{bar}
-use Rattle.rules.specs.Step.{barLines}
+use Rattle.rules.specs.Step.{ownRefusal}
+use Rattle.rules.specs.Step.{ownLines}
 use Rattle.wire.specs.Choice.{firstOf}
 use borrow.Author.Needs.{needs}
-use Rattle.receiver.proofs.bar.Statement.{statement}
-use Rattle.receiver.proofs.bar.Tie as tie
+use Rattle.receiver.proofs.own_refusal.Statement.{statement}
+use Rattle.receiver.proofs.own_refusal.Tie as tie
 
 payload-scrambled-requires : tie.Need-payload-scrambled-requires
 payload-scrambled-requires c κs = search needs
@@ -20,13 +20,13 @@ first-requires-2 : tie.Need-first-requires-2
 first-requires-2 c κs = search needs
 
 returns : tie.Need-returns
-unfolding bar barLines firstOf
+unfolding ownRefusal ownLines firstOf
 returns c =
     let limit = c .before .before in
     c .first2 .ensures ∙ rw (c .before .first .ensures, limit .over-limit .ensures, limit .before .payload-scrambled .ensures)
 
-pub bar-spec : {M : Type 1} → statement M
-bar-spec =
+pub own-refusal-spec : {M : Type 1} → statement M
+own-refusal-spec =
     tie.close
     (tie.spec
     payload-scrambled-requires

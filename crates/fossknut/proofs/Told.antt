@@ -7,11 +7,11 @@ use Rattle.rules.specs.declared.Step.{Step}
 use Rattle.rules.specs.Send.{SendOutcome, sendingNumber, sendingLength, Sends}
 use Rattle.rules.specs.Step.{Outcome, Does, numberOf, lengthOf}
 use Rattle.caller_numbers.specs.Numbers.{Numbers, numbersOf}
-use Rattle.fossknut.specs.Given.{Given, Gives}
+use Rattle.fossknut.specs.Told.{ReceiveTold, SendTold}
 
-pub given : {r l : ℕ} {n : Numbers} {b : List ℕ} (o : Outcome) (t : Step)
-    → Does o t b → r ≡ numberOf (t .answer) → l ≡ lengthOf (t .answer) → n ≡ numbersOf (t .state) → Given o r l n b
-given o t d answer unit state =
+pub receive-told : {r l : ℕ} {n : Numbers} {b : List ℕ} (o : Outcome) (t : Step)
+    → Does o t b → r ≡ numberOf (t .answer) → l ≡ lengthOf (t .answer) → n ≡ numbersOf (t .state) → ReceiveTold o r l n b
+receive-told o t d answer unit state =
     record {
       answer = answer ∙ ap (λ (t : Step). numberOf (t .answer)) (d .step);
       unit = unit ∙ ap (λ (t : Step). lengthOf (t .answer)) (d .step);
@@ -19,7 +19,7 @@ given o t d answer unit state =
       buffer = d .buffer;
     }
 
-pub gives : {o : SendOutcome} {sending : Sending} {r l : ℕ} {out : List ℕ} → Sends o sending out
-    → r ≡ sendingNumber sending → l ≡ sendingLength sending → Gives o r l out
-gives s number length =
+pub send-told : {o : SendOutcome} {sending : Sending} {r l : ℕ} {out : List ℕ} → Sends o sending out
+    → r ≡ sendingNumber sending → l ≡ sendingLength sending → SendTold o r l out
+send-told s number length =
     record { number = number ∙ ap sendingNumber (s .sending); length = length ∙ ap sendingLength (s .sending); output = s .output }

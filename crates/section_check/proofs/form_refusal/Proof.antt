@@ -2,8 +2,8 @@
 use Rattle.rules.specs.Check.{formLines}
 use Rattle.wire.specs.Choice.{firstOf}
 use borrow.Author.Needs.{needs}
-use Rattle.section_check.proofs.form_fault.Statement.{statement}
-use Rattle.section_check.proofs.form_fault.Tie as tie
+use Rattle.section_check.proofs.form_refusal.Statement.{statement}
+use Rattle.section_check.proofs.form_refusal.Tie as tie
 
 wrong-syntax-requires : tie.Need-wrong-syntax-requires
 wrong-syntax-requires c κs = search needs
@@ -33,8 +33,8 @@ returns : tie.Need-returns
 unfolding formLines firstOf
 returns c = cc
 
-pub form-fault-spec : {M : Type 1} → statement M
-form-fault-spec =
+pub form-refusal-spec : {M : Type 1} → statement M
+form-refusal-spec =
     tie.close
     (tie.spec
     wrong-syntax-requires

@@ -1,8 +1,8 @@
 -- The code computes the definition.
 use native.Mathlib.Omega.{arith}
 use borrow.Author.Needs.{needs}
-use Rattle.pes.proofs.rate_place.Statement.{statement}
-use Rattle.pes.proofs.rate_place.Tie as tie
+use Rattle.pes.proofs.rate_offset.Statement.{statement}
+use Rattle.pes.proofs.rate_offset.Tie as tie
 
 pts-extension-flag-requires : tie.Need-pts-extension-flag-requires
 pts-extension-flag-requires c κs = search needs
@@ -18,6 +18,6 @@ returns c =
     let f = c .flagged .ensures in
     record { is = rw (f .is, c .before .pts-extension-flag .ensures); below = omega (arith, f .below) }
 
-pub rate-place-spec : {M : Type 1} → statement M
-rate-place-spec =
+pub rate-offset-spec : {M : Type 1} → statement M
+rate-offset-spec =
     tie.close (tie.spec pts-extension-flag-requires flagged-requires add-result returns)
