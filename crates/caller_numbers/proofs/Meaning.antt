@@ -21,4 +21,4 @@ flag-back false = refl
 pub handed-on : HandedOn
 unfolding stateOf numbersOf flagNumber pick
 handed-on Idle = refl
-handed-on (Open next filled key) = λ i. Open next filled (record { last = key .last; flag = flag-back (key .flag) i })
+handed-on (Open next filled key) = λ i. Open next filled (record { last = key .last; «llc_snap» = flag-back (key .«llc_snap») i })

@@ -18,7 +18,7 @@ settingsOf m1 m2 m3 m4 m5 m6 range limit = record { address = addressOf m1 m2 m3
 
 -- a flag: any number but 0 is 1
 abbrev pub flagOf : ℕ → Bool
-flagOf flag = not (eqb flag 0)
+flagOf llcSnap = not (eqb llcSnap 0)
 
 -- run 0 is idle, any other value an open run: its next number, last number, filled length and flag
 pub record Numbers : Type 0 where
@@ -26,23 +26,23 @@ pub record Numbers : Type 0 where
   pub next : ℕ
   pub last : ℕ
   pub filled : ℕ
-  pub flag : ℕ
+  pub llcSnap : ℕ
 
 abbrev pub numbers : ℕ → ℕ → ℕ → ℕ → ℕ → Numbers
-numbers run next last filled flag = record { run = run; next = next; last = last; filled = filled; flag = flag }
+numbers run next last filled llcSnap = record { run = run; next = next; last = last; filled = filled; llcSnap = llcSnap }
 
 -- the state that the numbers mean
 unfoldable pub stateOf : Numbers → State
-stateOf n = pick (eqb (n .run) 0) Idle (Open (n .next) (n .filled) (record { last = n .last; flag = flagOf (n .flag) }))
+stateOf n = pick (eqb (n .run) 0) Idle (Open (n .next) (n .filled) (record { last = n .last; «llc_snap» = flagOf (n .llcSnap) }))
 
 -- the number of a flag
 unfoldable pub flagNumber : Bool → ℕ
-flagNumber flag = pick flag 1 0
+flagNumber llcSnap = pick llcSnap 1 0
 
 -- the numbers of a state; an idle one has zeros
 unfoldable pub numbersOf : State → Numbers
 numbersOf Idle = numbers 0 0 0 0 0
-numbersOf (Open next filled key) = numbers 1 next (key .last) filled (flagNumber (key .flag))
+numbersOf (Open next filled key) = numbers 1 next (key .last) filled (flagNumber (key .«llc_snap»))
 
 -- the numbers of a state mean that state: a caller who hands them on hands on the state
 abbrev pub HandedOn : Type 0

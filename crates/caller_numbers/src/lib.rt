@@ -40,8 +40,8 @@ pub fn settings_of(
 }
 
 // The state that the numbers mean.
-pub fn state_of(run: u8, next: usize, last: usize, filled: usize, flag: u8) -> State
-    ensures { λ r. ⌜ r ≡ stateOf (numbers run next last filled flag) ⌝ }
+pub fn state_of(run: u8, next: usize, last: usize, filled: usize, llc_snap: u8) -> State
+    ensures { λ r. ⌜ r ≡ stateOf (numbers run next last filled «llc_snap») ⌝ }
 {
     if run == 0 {
         return State::Idle;
@@ -51,7 +51,7 @@ pub fn state_of(run: u8, next: usize, last: usize, filled: usize, flag: u8) -> S
         filled: filled,
         key: Key {
             last: last,
-            flag: flag != 0,
+            llc_snap: llc_snap != 0,
         },
     }
 }
@@ -63,9 +63,9 @@ pub fn put(
     next: &mut usize,
     last: &mut usize,
     filled: &mut usize,
-    flag: &mut u8,
+    llc_snap: &mut u8,
 )
-    ensures { λ _. ⌜ numbers (now (run .exit)) (now (next .exit)) (now (last .exit)) (now (filled .exit)) (now (flag .exit))
+    ensures { λ _. ⌜ numbers (now (run .exit)) (now (next .exit)) (now (last .exit)) (now (filled .exit)) (now («llc_snap» .exit))
         ≡ numbersOf state ⌝ }
 {
     let State::Open {
@@ -78,12 +78,12 @@ pub fn put(
         *next = 0;
         *last = 0;
         *filled = 0;
-        *flag = 0;
+        *llc_snap = 0;
         return;
     };
     *run = 1;
     *next = e;
     *last = key.last;
     *filled = f;
-    *flag = key.flag as u8;
+    *llc_snap = key.llc_snap as u8;
 }

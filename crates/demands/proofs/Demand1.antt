@@ -18,9 +18,9 @@ steps : (c : Settings) (σ : State) (s b : List ℕ) → let o : Outcome = stepO
     Steps c σ s b (numberOf (o .step .answer)) (lengthOf (o .step .answer)) (o .step .state) (o .buffer)
 steps c σ s b = record { number = receiver-means c σ s b; after = receiver-gives c σ s b }
 
-sends : (c : Settings) (flag : Bool) (size : ℕ) (u out : List ℕ) → let o : SendOutcome = sentOf c flag size u out in
+sends : (c : Settings) (llcSnap : Bool) (size : ℕ) (u out : List ℕ) → let o : SendOutcome = sentOf c llcSnap size u out in
     Sends c size u out (sendingNumber (o .sending)) (sendingLength (o .sending)) (o .output)
-sends c flag size u out = record { number = sender-means c flag size u out; refused = sender-gives c flag size u out .refused }
+sends c llcSnap size u out = record { number = sender-means c llcSnap size u out; refused = sender-gives c llcSnap size u out .refused }
 
 pub demand-1 : Demand1
 unfolding gapOf numbersOf
@@ -30,8 +30,8 @@ demand-1 =
       receive = λ κs (c, (σ, (s, (b, _)))) z e p. rw (p .step, p .buffer) (steps c σ (now s) (now b));
       named = λ κs (c, (σ, (s, (b, _)))) z e p. rw (p .step) (receiver-names c σ (now s) (now b));
       gap = λ κs a z e p. p;
-      send = λ κs (c, (flag, (size, (u, (out, _))))) z e p. rw (p .sending, p .output) (sends c flag size (now u) (now out));
-      send-by-default = λ κs (c, (flag, (u, (out, _)))) z e p. rw (p .sending, p .output) (sends c flag defaultPiece (now u) (now out));
+      send = λ κs (c, (llcSnap, (size, (u, (out, _))))) z e p. rw (p .sending, p .output) (sends c llcSnap size (now u) (now out));
+      send-by-default = λ κs (c, (llcSnap, (u, (out, _)))) z e p. rw (p .sending, p .output) (sends c llcSnap defaultPiece (now u) (now out));
       fossknut-check = λ κs (s, _) z e p. rw p (check-means (now s));
       fossknut-receive = λ κs a z e p. let g : ReceiveGiven = receiveGiven κs a in (
         stepOf (g .settings) (stateOf (g .state)) (g .section) (g .buffer) .step .state,
@@ -40,7 +40,7 @@ demand-1 =
       );
       fossknut-gap = λ κs a z e p. p;
       fossknut-send = λ κs a z e p. let g : SendGiven = sendGiven κs a in
-          rw (p .number, p .length, p .output) (sends (g .settings) (g .flag) (sizeGiven κs a) (g .unit) (g .output));
+          rw (p .number, p .length, p .output) (sends (g .settings) (g .llcSnap) (sizeGiven κs a) (g .unit) (g .output));
       fossknut-send-by-default = λ κs a z e p. let g : SendGiven = defaultGiven κs a in
-          rw (p .number, p .length, p .output) (sends (g .settings) (g .flag) defaultPiece (g .unit) (g .output));
+          rw (p .number, p .length, p .output) (sends (g .settings) (g .llcSnap) defaultPiece (g .unit) (g .output));
     }

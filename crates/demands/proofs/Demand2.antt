@@ -28,23 +28,23 @@ given-back c u xs a some b h ds k g =
     let is : ds ≡ handedRow c (fresh b) (map section xs) = row-handed c (fresh b) (map section xs) ds k g in
     rw is (arrives-handed c b xs u (a b h) some)
 
-sent-right : (c : Settings) (flag : Bool) (size : ℕ) (u out : List ℕ) → let o : SendOutcome = sentOf c flag size u out in
-    sendingNumber (o .sending) ≡ 0 → SentRight c flag size u out (sendingLength (o .sending)) (o .output)
-sent-right c flag size u out h =
-    let o : SendOutcome = sentOf c flag size u out in
+sent-right : (c : Settings) (llcSnap : Bool) (size : ℕ) (u out : List ℕ) → let o : SendOutcome = sentOf c llcSnap size u out in
+    sendingNumber (o .sending) ≡ 0 → SentRight c llcSnap size u out (sendingLength (o .sending)) (o .output)
+sent-right c llcSnap size u out h =
+    let o : SendOutcome = sentOf c llcSnap size u out in
     let n : ℕ = sendingLength (o .sending) in
-    let sent : o .sending ≡ Sent n = sent-by-number c flag size u out h in
-    let g : SentAll c flag size u out n = sent-all c flag size u out n sent in
-    let bytes : take n (o .output) ≡ flatten (sections c flag size u) = sent-all-bytes c flag size u out n g in
-    let d : Carries c flag size u (take n (o .output)) = round-trip c flag size u out n sent in
+    let sent : o .sending ≡ Sent n = sent-by-number c llcSnap size u out h in
+    let g : SentAll c llcSnap size u out n = sent-all c llcSnap size u out n sent in
+    let bytes : take n (o .output) ≡ flatten (sections c llcSnap size u) = sent-all-bytes c llcSnap size u out n g in
+    let d : Carries c llcSnap size u (take n (o .output)) = round-trip c llcSnap size u out n sent in
     record {
       written =
           record {
             bytes = take n (o .output);
             sections = d .sections;
             long = g .size ∙ ap length (sym bytes);
-            is = rw bytes (g .output ∙ ap (λ (x : List ℕ). x ++ drop (length (flatten (sections c flag size u))) out)
-                (take-all (length out) (flatten (sections c flag size u)) (g .accepted .room)));
+            is = rw bytes (g .output ∙ ap (λ (x : List ℕ). x ++ drop (length (flatten (sections c llcSnap size u))) out)
+                (take-all (length out) (flatten (sections c llcSnap size u)) (g .accepted .room)));
           };
       offered = d .offered;
       back = given-back c u (map table3 (d .sections .values)) (d .arrives)
@@ -55,13 +55,13 @@ pub demand-2 : Demand2
 demand-2 =
     record {
       check = λ κs (s, _) z e p b. rw p (sound-exactly (now s) b);
-      send = λ κs (c, (flag, (size, (u, (out, _))))) z e p q.
-          rw (p .sending, p .output) (sent-right c flag size (now u) (now out) (sym (ap sendingNumber (p .sending)) ∙ q));
-      send-by-default = λ κs (c, (flag, (u, (out, _)))) z e p q.
-          rw (p .sending, p .output) (sent-right c flag defaultPiece (now u) (now out) (sym (ap sendingNumber (p .sending)) ∙ q));
+      send = λ κs (c, (llcSnap, (size, (u, (out, _))))) z e p q.
+          rw (p .sending, p .output) (sent-right c llcSnap size (now u) (now out) (sym (ap sendingNumber (p .sending)) ∙ q));
+      send-by-default = λ κs (c, (llcSnap, (u, (out, _)))) z e p q.
+          rw (p .sending, p .output) (sent-right c llcSnap defaultPiece (now u) (now out) (sym (ap sendingNumber (p .sending)) ∙ q));
       fossknut-check = λ κs (s, _) z e p b. rw p (sound-exactly (now s) b);
       fossknut-send = λ κs a z e p q. let g : SendGiven = sendGiven κs a in
-          rw (p .length, p .output) (sent-right (g .settings) (g .flag) (sizeGiven κs a) (g .unit) (g .output) (sym (p .number) ∙ q));
+          rw (p .length, p .output) (sent-right (g .settings) (g .llcSnap) (sizeGiven κs a) (g .unit) (g .output) (sym (p .number) ∙ q));
       fossknut-send-by-default = λ κs a z e p q. let g : SendGiven = defaultGiven κs a in
-          rw (p .length, p .output) (sent-right (g .settings) (g .flag) defaultPiece (g .unit) (g .output) (sym (p .number) ∙ q));
+          rw (p .length, p .output) (sent-right (g .settings) (g .llcSnap) defaultPiece (g .unit) (g .output) (sym (p .number) ∙ q));
     }

@@ -64,26 +64,26 @@ unfolding flagNumber pick
 flag-number true = refl
 flag-number false = refl
 
-data-count : (s : List ℕ) → length (dataOf s) ≡ readOf s .end - readOf s .start
+data-count : (s : List ℕ) → length (dataOf s) ≡ readOf s .end - readOf s .offset
 data-count s =
     let w = data-within s (readOf s) refl in
-    length-drop (readOf s .start) (take (readOf s .end) s) ∙ ap (λ (n : ℕ). n - readOf s .start) (length-take-le (readOf s .end) s (w .inside))
+    length-drop (readOf s .offset) (take (readOf s .end) s) ∙ ap (λ (n : ℕ). n - readOf s .offset) (length-take-le (readOf s .end) s (w .inside))
 
 -- what a foreign caller is given of an outcome is what a reading and its data have
-given : {s : List ℕ} {r : Reading} {p : Part} {z extended rated extension rate start count : ℕ}
-    → PacketTold (readOf s) z extended rated extension rate start count → GivesPacket s r p
+given : {s : List ℕ} {r : Reading} {p : Part} {z extended rated extension rate offset count : ℕ}
+    → PacketTold (readOf s) z extended rated extension rate offset count → GivesPacket s r p
     → record {
       answer = z;
       extended = extended;
       rated = rated;
       extension = extension;
       rate = rate;
-      start = start;
+      offset = offset;
       count = count;
     }
     ≡ packetNumbers r p
 given {s = s} t g =
-    rw (t .answer, t .extended, t .rated, t .extension, t .rate, t .start, t .length)
+    rw (t .answer, t .extended, t .rated, t .extension, t .rate, t .offset, t .length)
     (rw (flag-number (readOf s .extended), flag-number (readOf s .rated), ← data-count s) (ap₂ packetNumbers (g .reading) (g .given)))
 
 pub readers : Readers

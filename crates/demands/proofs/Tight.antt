@@ -63,5 +63,5 @@ tight =
       fossknut-send = λ κs a z y e d p q. (p .number ∙ sym (q .number), rw (p .output, q .output, p .length, q .length));
       fossknut-send-by-default = λ κs a z y e d p q. (p .number ∙ sym (q .number), rw (p .output, q .output, p .length, q .length));
       fossknut-notification = λ κs a z y e d p q. (p .number ∙ sym (q .number), p .offset ∙ sym (q .offset));
-      fossknut-pes = λ κs a z y e d p q. rw (p .answer, q .answer, p .extended, q .extended, p .rated, q .rated, p .extension, q .extension, p .rate, q .rate, p .start, q .start, p .length, q .length);
+      fossknut-pes = λ κs a z y e d p q. rw (p .answer, q .answer, p .extended, q .extended, p .rated, q .rated, p .extension, q .extension, p .rate, q .rate, p .offset, q .offset, p .length, q .length);
     }

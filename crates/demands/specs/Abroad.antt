@@ -19,10 +19,10 @@ pub record ReceiveGiven : Type 0 where
   pub buffer : List ℕ
 
 abbrev pub receiveGiven : (κs : Lfts 8) → Args contracts.fossknut-receive κs → ReceiveGiven
-receiveGiven κs (m1, (m2, (m3, (m4, (m5, (m6, (range, (limit, (run, (next, (last, (filled, (flag, (s, (buffer, _))))))))))))))) =
+receiveGiven κs (m1, (m2, (m3, (m4, (m5, (m6, (range, (limit, (run, (next, (last, (filled, (llcSnap, (s, (buffer, _))))))))))))))) =
     record {
       settings = settingsOf m1 m2 m3 m4 m5 m6 range limit;
-      state = numbers (now run) (now next) (now last) (now filled) (now flag);
+      state = numbers (now run) (now next) (now last) (now filled) (now llcSnap);
       section = now s;
       buffer = now buffer;
     }
@@ -33,24 +33,24 @@ pub record ReceiveGave : Type 0 where
   pub length : ℕ
 
 abbrev pub receiveGave : (κs : Lfts 8) → Exit contracts.fossknut-receive κs → ReceiveGave
-receiveGave κs (_, (_, (_, (_, (_, (_, (_, (_, (run, (next, (last, (filled, (flag, (_, (buffer, (length, _)))))))))))))))) =
+receiveGave κs (_, (_, (_, (_, (_, (_, (_, (_, (run, (next, (last, (filled, (llcSnap, (_, (buffer, (length, _)))))))))))))))) =
     record {
-      state = numbers (now run) (now next) (now last) (now filled) (now flag);
+      state = numbers (now run) (now next) (now last) (now filled) (now llcSnap);
       buffer = now buffer;
       length = now length;
     }
 
 -- ---- fossknut_gap
 abbrev pub gapGiven : (κs : Lfts 5) → Args contracts.fossknut-gap κs → Numbers
-gapGiven κs (run, (next, (last, (filled, (flag, _))))) = numbers (now run) (now next) (now last) (now filled) (now flag)
+gapGiven κs (run, (next, (last, (filled, (llcSnap, _))))) = numbers (now run) (now next) (now last) (now filled) (now llcSnap)
 
 abbrev pub gapGave : (κs : Lfts 5) → Exit contracts.fossknut-gap κs → Numbers
-gapGave κs (run, (next, (last, (filled, (flag, _))))) = numbers (now run) (now next) (now last) (now filled) (now flag)
+gapGave κs (run, (next, (last, (filled, (llcSnap, _))))) = numbers (now run) (now next) (now last) (now filled) (now llcSnap)
 
 -- ---- fossknut_send and fossknut_send_by_default, which is given no piece size
 pub record SendGiven : Type 0 where
   pub settings : Settings
-  pub flag : Bool
+  pub llcSnap : Bool
   pub unit : List ℕ
   pub output : List ℕ
 
@@ -59,8 +59,8 @@ pub record SendGave : Type 0 where
   pub length : ℕ
 
 abbrev pub sendGiven : (κs : Lfts 3) → Args contracts.fossknut-send κs → SendGiven
-sendGiven κs (m1, (m2, (m3, (m4, (m5, (m6, (range, (limit, (flag, (_, (unit, (out, _)))))))))))) =
-    record { settings = settingsOf m1 m2 m3 m4 m5 m6 range limit; flag = flagOf flag; unit = now unit; output = now out }
+sendGiven κs (m1, (m2, (m3, (m4, (m5, (m6, (range, (limit, (llcSnap, (_, (unit, (out, _)))))))))))) =
+    record { settings = settingsOf m1 m2 m3 m4 m5 m6 range limit; llcSnap = flagOf llcSnap; unit = now unit; output = now out }
 
 abbrev pub sizeGiven : (κs : Lfts 3) → Args contracts.fossknut-send κs → ℕ
 sizeGiven κs (_, (_, (_, (_, (_, (_, (_, (_, (_, (size, _)))))))))) = size
@@ -69,8 +69,8 @@ abbrev pub sendGave : (κs : Lfts 3) → Exit contracts.fossknut-send κs → Se
 sendGave κs (_, (_, (_, (_, (_, (_, (_, (_, (_, (_, (_, (out, (length, _))))))))))))) = record { output = now out; length = now length }
 
 abbrev pub defaultGiven : (κs : Lfts 3) → Args contracts.fossknut-send-by-default κs → SendGiven
-defaultGiven κs (m1, (m2, (m3, (m4, (m5, (m6, (range, (limit, (flag, (unit, (out, _))))))))))) =
-    record { settings = settingsOf m1 m2 m3 m4 m5 m6 range limit; flag = flagOf flag; unit = now unit; output = now out }
+defaultGiven κs (m1, (m2, (m3, (m4, (m5, (m6, (range, (limit, (llcSnap, (unit, (out, _))))))))))) =
+    record { settings = settingsOf m1 m2 m3 m4 m5 m6 range limit; llcSnap = flagOf llcSnap; unit = now unit; output = now out }
 
 abbrev pub defaultGave : (κs : Lfts 3) → Exit contracts.fossknut-send-by-default κs → SendGave
 defaultGave κs (_, (_, (_, (_, (_, (_, (_, (_, (_, (_, (out, (length, _)))))))))))) = record { output = now out; length = now length }
@@ -93,17 +93,17 @@ pub record PacketNumbers : Type 0 where
   pub rated : ℕ
   pub extension : ℕ
   pub rate : ℕ
-  pub start : ℕ
+  pub offset : ℕ
   pub count : ℕ
 
 abbrev pub packetGave : (κs : Lfts 7) → ℕ → Exit contracts.fossknut-pes κs → PacketNumbers
-packetGave κs z (_, (extended, (rated, (extension, (rate, (start, (length, _))))))) =
+packetGave κs z (_, (extended, (rated, (extension, (rate, (offset, (length, _))))))) =
     record {
       answer = z;
       extended = now extended;
       rated = now rated;
       extension = now extension;
       rate = now rate;
-      start = now start;
+      offset = now offset;
       count = now length;
     }

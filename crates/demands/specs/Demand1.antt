@@ -46,10 +46,10 @@ pub record Demand1 : Type 0 where
       (λ κs a z e. z ≡ Idle)
   -- where no piece size is given, it is 4,080
   pub send : Allowed contracts.send
-      (λ κs (settings, (flag, (size, (unit, (out, _))))) z (_, (_, (_, (_, (after, _))))).
+      (λ κs (settings, (llcSnap, (size, (unit, (out, _))))) z (_, (_, (_, (_, (after, _))))).
       Sends settings size (now unit) (now out) (sendingNumber z) (sendingLength z) (now after))
   pub send-by-default : Allowed contracts.send-by-default
-      (λ κs (settings, (flag, (unit, (out, _)))) z (_, (_, (_, (after, _)))).
+      (λ κs (settings, (llcSnap, (unit, (out, _)))) z (_, (_, (_, (after, _)))).
       Sends settings 4080 (now unit) (now out) (sendingNumber z) (sendingLength z) (now after))
   -- the exported functions: the state is given and handed back as numbers
   pub fossknut-check : Allowed contracts.fossknut-check

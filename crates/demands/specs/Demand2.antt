@@ -27,8 +27,8 @@ GivenBack c u xs =
     → ds ≡ replicate (length ds - 1) nothing ++ (datagram (length u) u ∷ [])
 
 -- what is written: the sections, from the start of the output; cut as the listing cuts, they are these one by one; and they give the unit back
-pub record SentRight (c : Settings) (flag : Bool) (size : ℕ) (u out : List ℕ) (total : ℕ) (output : List ℕ) : Type 0 where
-  pub written : Written c flag size u out total output
+pub record SentRight (c : Settings) (llcSnap : Bool) (size : ℕ) (u out : List ℕ) (total : ℕ) (output : List ℕ) : Type 0 where
+  pub written : Written c llcSnap size u out total output
   pub offered : offers (written .bytes) ≡ map table3 (written .sections .values)
   pub back : GivenBack c u (map table3 (written .sections .values))
 
@@ -38,17 +38,17 @@ pub record Demand2 : Type 0 where
       (λ κs (s, _) z e. Bytes (now s) → (z ≡ 0) ↔ Sound (now s))
   -- where no piece size is given, it is 4,080
   pub send : Allowed contracts.send
-      (λ κs (settings, (flag, (size, (unit, (out, _))))) z (_, (_, (_, (_, (after, _))))). sendingNumber z ≡ 0
-      → SentRight settings flag size (now unit) (now out) (sendingLength z) (now after))
+      (λ κs (settings, (llcSnap, (size, (unit, (out, _))))) z (_, (_, (_, (_, (after, _))))). sendingNumber z ≡ 0
+      → SentRight settings llcSnap size (now unit) (now out) (sendingLength z) (now after))
   pub send-by-default : Allowed contracts.send-by-default
-      (λ κs (settings, (flag, (unit, (out, _)))) z (_, (_, (_, (after, _)))). sendingNumber z ≡ 0
-      → SentRight settings flag 4080 (now unit) (now out) (sendingLength z) (now after))
+      (λ κs (settings, (llcSnap, (unit, (out, _)))) z (_, (_, (_, (after, _)))). sendingNumber z ≡ 0
+      → SentRight settings llcSnap 4080 (now unit) (now out) (sendingLength z) (now after))
   -- the exported functions
   pub fossknut-check : Allowed contracts.fossknut-check
       (λ κs (s, _) z e. Bytes (now s) → (z ≡ 0) ↔ Sound (now s))
   pub fossknut-send : Allowed contracts.fossknut-send
       (λ κs a z e. let given = sendGiven κs a in let gave = sendGave κs e in z ≡ 0
-      → SentRight (given .settings) (given .flag) (sizeGiven κs a) (given .unit) (given .output) (gave .length) (gave .output))
+      → SentRight (given .settings) (given .llcSnap) (sizeGiven κs a) (given .unit) (given .output) (gave .length) (gave .output))
   pub fossknut-send-by-default : Allowed contracts.fossknut-send-by-default
       (λ κs a z e. let given = defaultGiven κs a in let gave = defaultGave κs e in z ≡ 0
-      → SentRight (given .settings) (given .flag) 4080 (given .unit) (given .output) (gave .length) (gave .output))
+      → SentRight (given .settings) (given .llcSnap) 4080 (given .unit) (given .output) (gave .length) (gave .output))

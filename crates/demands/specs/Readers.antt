@@ -54,7 +54,7 @@ packetNumbers r p =
       rated = cond (r .rated) 1 0;
       extension = r .extension;
       rate = r .rate;
-      start = p .offset;
+      offset = p .offset;
       count = length (p .bytes);
     }
 

@@ -90,8 +90,8 @@ pub record Tight : Type 0 where
   pub settings-of : OneResult contracts.settings-of
   pub state-of : OneResult contracts.state-of
   pub put-state : AnyTwo contracts.put-state
-      (λ κs z y (_, (run, (next, (last, (filled, (flag, _)))))) (_, (run′, (next′, (last′, (filled′, (flag′, _)))))).
-      numbers (now run) (now next) (now last) (now filled) (now flag) ≡ numbers (now run′) (now next′) (now last′) (now filled′) (now flag′))
+      (λ κs z y (_, (run, (next, (last, (filled, (llcSnap, _)))))) (_, (run′, (next′, (last′, (filled′, (flag′, _)))))).
+      numbers (now run) (now next) (now last) (now filled) (now llcSnap) ≡ numbers (now run′) (now next′) (now last′) (now filled′) (now flag′))
   -- fossknut: the answer, and all that is given back
   pub fossknut-crc-32 : OneResult contracts.fossknut-crc-32
   pub fossknut-check : OneResult contracts.fossknut-check

@@ -35,5 +35,5 @@ pub record PacketTold (o : Reading) (r e d x v p n : ℕ) : Type 0 where
   pub rated : d ≡ flagNumber (o .rated)
   pub extension : x ≡ o .extension
   pub rate : v ≡ o .rate
-  pub start : p ≡ o .start
-  pub length : n ≡ o .end - o .start
+  pub offset : p ≡ o .offset
+  pub length : n ≡ o .end - o .offset

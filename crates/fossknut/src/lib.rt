@@ -47,7 +47,7 @@ pub extern "C" fn fossknut_receive(
     next: &mut usize,
     last: &mut usize,
     filled: &mut usize,
-    flag: &mut u8,
+    llc_snap: &mut u8,
     s: &[u8],
     buffer: &mut [u8],
     length: &mut usize,
@@ -55,20 +55,20 @@ pub extern "C" fn fossknut_receive(
     ensures { λ r. ⌜ ReceiveTold
         (stepOf
         (settingsOf mac1 mac2 mac3 mac4 mac5 mac6 range limit)
-        (stateOf (numbers (now (run .entry)) (now (next .entry)) (now (last .entry)) (now (filled .entry)) (now (flag .entry))))
+        (stateOf (numbers (now (run .entry)) (now (next .entry)) (now (last .entry)) (now (filled .entry)) (now («llc_snap» .entry))))
         (now (s .entry))
         (now (buffer .entry)))
         r
         (now (length .exit))
-        (numbers (now (run .exit)) (now (next .exit)) (now (last .exit)) (now (filled .exit)) (now (flag .exit)))
+        (numbers (now (run .exit)) (now (next .exit)) (now (last .exit)) (now (filled .exit)) (now («llc_snap» .exit)))
         (now (buffer .exit)) ⌝ }
 {
     let settings = settings_of(mac1, mac2, mac3, mac4, mac5, mac6, range, limit);
-    let state = state_of(*run, *next, *last, *filled, *flag);
+    let state = state_of(*run, *next, *last, *filled, *llc_snap);
     let step = receiver::receive(settings, state, s, buffer);
     let answer = step.answer;
     let after = step.state;
-    put(after, run, next, last, filled, flag);
+    put(after, run, next, last, filled, llc_snap);
     *length = answer_numbers::length_of(answer);
     answer_numbers::number_of(answer)
 }
@@ -80,14 +80,14 @@ pub extern "C" fn fossknut_gap(
     next: &mut usize,
     last: &mut usize,
     filled: &mut usize,
-    flag: &mut u8,
+    llc_snap: &mut u8,
 )
-    ensures { λ _. ⌜ numbers (now (run .exit)) (now (next .exit)) (now (last .exit)) (now (filled .exit)) (now (flag .exit))
+    ensures { λ _. ⌜ numbers (now (run .exit)) (now (next .exit)) (now (last .exit)) (now (filled .exit)) (now («llc_snap» .exit))
         ≡ numbersOf (gapOf
-        (stateOf (numbers (now (run .entry)) (now (next .entry)) (now (last .entry)) (now (filled .entry)) (now (flag .entry))))) ⌝ }
+        (stateOf (numbers (now (run .entry)) (now (next .entry)) (now (last .entry)) (now (filled .entry)) (now («llc_snap» .entry))))) ⌝ }
 {
-    let state = receiver::gap(state_of(*run, *next, *last, *filled, *flag));
-    put(state, run, next, last, filled, flag);
+    let state = receiver::gap(state_of(*run, *next, *last, *filled, *llc_snap));
+    put(state, run, next, last, filled, llc_snap);
 }
 
 // The sender. The address is six numbers in printed order, any flag but 0 is 1, and the total length goes to `length`.
@@ -101,17 +101,17 @@ pub extern "C" fn fossknut_send(
     mac6: u8,
     range: usize,
     limit: usize,
-    flag: u8,
+    llc_snap: u8,
     size: usize,
     unit: &[u8],
     out: &mut [u8],
     length: &mut usize,
 ) -> u8
-    ensures { λ r. ⌜ SendTold (sentOf (settingsOf mac1 mac2 mac3 mac4 mac5 mac6 range limit) (flagOf flag) size
+    ensures { λ r. ⌜ SendTold (sentOf (settingsOf mac1 mac2 mac3 mac4 mac5 mac6 range limit) (flagOf «llc_snap») size
         (now (unit .entry)) (now (out .entry))) r (now (length .exit)) (now (out .exit)) ⌝ }
 {
     let settings = settings_of(mac1, mac2, mac3, mac4, mac5, mac6, range, limit);
-    let sending = sender::send(settings, flag != 0, size, unit, out);
+    let sending = sender::send(settings, llc_snap != 0, size, unit, out);
     *length = answer_numbers::sending_length(sending);
     answer_numbers::sending_number(sending)
 }
@@ -127,16 +127,16 @@ pub extern "C" fn fossknut_send_by_default(
     mac6: u8,
     range: usize,
     limit: usize,
-    flag: u8,
+    llc_snap: u8,
     unit: &[u8],
     out: &mut [u8],
     length: &mut usize,
 ) -> u8
-    ensures { λ r. ⌜ SendTold (sentOf (settingsOf mac1 mac2 mac3 mac4 mac5 mac6 range limit) (flagOf flag) defaultPiece
+    ensures { λ r. ⌜ SendTold (sentOf (settingsOf mac1 mac2 mac3 mac4 mac5 mac6 range limit) (flagOf «llc_snap») defaultPiece
         (now (unit .entry)) (now (out .entry))) r (now (length .exit)) (now (out .exit)) ⌝ }
 {
     let settings = settings_of(mac1, mac2, mac3, mac4, mac5, mac6, range, limit);
-    let sending = sender::send_by_default(settings, flag != 0, unit, out);
+    let sending = sender::send_by_default(settings, llc_snap != 0, unit, out);
     *length = answer_numbers::sending_length(sending);
     answer_numbers::sending_number(sending)
 }
@@ -169,7 +169,7 @@ pub extern "C" fn fossknut_pes(
     rated: &mut u8,
     extension: &mut usize,
     rate: &mut usize,
-    start: &mut usize,
+    offset: &mut usize,
     length: &mut usize,
 ) -> u8
     ensures { λ r. ⌜ PacketTold
@@ -179,7 +179,7 @@ pub extern "C" fn fossknut_pes(
         (now (rated .exit))
         (now (extension .exit))
         (now (rate .exit))
-        (now (start .exit))
+        (now (offset .exit))
         (now (length .exit)) ⌝ }
 {
     let reading = pes::read(packet);
@@ -187,7 +187,7 @@ pub extern "C" fn fossknut_pes(
     *rated = reading.rated as u8;
     *extension = reading.extension as usize;
     *rate = reading.rate as usize;
-    *start = reading.start;
-    *length = reading.end - reading.start;
+    *offset = reading.offset;
+    *length = reading.end - reading.offset;
     reading.answer
 }

@@ -98,7 +98,7 @@ fn wrong_header_length(packet: &[u8]) -> bool
     ensures { λ r. ⌜ r ≡ wrongHeaderLength (now (packet .entry)) ⌝ }
 {
     let offset = data_offset(packet);
-    either(place < private_offset(packet), packet.len() < place)
+    either(offset < private_offset(packet), packet.len() < offset)
 }
 
 // The first of 40 to 43 that applies, else 0.
@@ -120,7 +120,7 @@ fn refused(number: u8) -> Reading
         rated: false,
         extension: 0,
         rate: 0,
-        start: 0,
+        offset: 0,
         end: 0,
     }
 }
@@ -134,7 +134,7 @@ fn taken(packet: &[u8]) -> Reading
         rated: output_data_rate_flag(packet),
         extension: pts_extension(packet),
         rate: output_data_rate(packet),
-        start: data_offset(packet),
+        offset: data_offset(packet),
         end: packet.len(),
     }
 }
@@ -155,7 +155,7 @@ pub fn data<'a>(packet: &'a [u8]) -> &'a [u8]
     ensures { λ r. ⌜ Is (packet .entry .ptr) (dataPart (now (packet .entry))) r ⌝ }
 {
     let reading = read(packet);
-    let start = reading.start;
+    let offset = reading.offset;
     let end = reading.end;
-    &packet[start..end]
+    &packet[offset..end]
 }

@@ -69,15 +69,15 @@ read-refused s h = rw (ne-eqb (refusal s) 0 h)
 pub within : (s : List ℕ) → None s → dataOffset s ≤ length s
 within s n = ltb-false (length s) (dataOffset s) (either-false _ _ (n .no43) .1)
 
-pub record Within (start end : ℕ) (s : List ℕ) : Type 0 where
-  pub order : start ≤ end
+pub record Within (offset end : ℕ) (s : List ℕ) : Type 0 where
+  pub order : offset ≤ end
   pub inside : end ≤ length s
 
-pub data-within : (s : List ℕ) (r : Reading) → r ≡ readOf s → Within (r .start) (r .end) s
+pub data-within : (s : List ℕ) (r : Reading) → r ≡ readOf s → Within (r .offset) (r .end) s
 unfolding readOf pick
 data-within s r e = rw e (go (eqb (refusal s) 0) refl)
   where
     go : (t : Bool) → eqb (refusal s) 0 ≡ t
-        → Within (pick t (taken s) (refused (refusal s)) .start) (pick t (taken s) (refused (refusal s)) .end) s
+        → Within (pick t (taken s) (refused (refusal s)) .offset) (pick t (taken s) (refused (refusal s)) .end) s
     go true z = record { order = within s (no-refusal s (eqb-true (refusal s) 0 z)); inside = omega arith }
     go false z = record { order = omega arith; inside = omega arith }

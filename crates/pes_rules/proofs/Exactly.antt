@@ -30,7 +30,7 @@ others-give-nothing s h = go (ℕ-discrete (refusal s) 0)
     go (no e) =
         let r : readOf s ≡ refused (refusal s) = read-refused s e in
         let z : zeros (refusal s) ≡ zeros (readOf s .answer) = ap (λ (x : Reading). zeros (x .answer)) (sym r) in
-        record { reading = r ∙ z; given = ap (λ (x : Reading). part (x .start) (slice (x .start) (x .end) s)) r }
+        record { reading = r ∙ z; given = ap (λ (x : Reading). part (x .offset) (slice (x .offset) (x .end) s)) r }
 
 pub sample-is-written : SampleIsWritten
 unfolding packetOf flagsByte optionalFields extensionField rateField bytesOf

@@ -215,8 +215,8 @@ written-is-read v k =
     let e : readOf (packetOf v) ≡ taken (packetOf v) = read-taken (packetOf v) (refusal-none (packetOf v) (none v k)) in
     record {
       reading = e ∙ reading v k;
-      given = ap (λ (r : Reading). part (r .start) (slice (r .start) (r .end) (packetOf v))) e
-          ∙ ap₂ (λ (n : ℕ) (l : List ℕ). part n l) (ap (λ (r : Reading). r .start) (reading v k)) (carried v k);
+      given = ap (λ (r : Reading). part (r .offset) (slice (r .offset) (r .end) (packetOf v))) e
+          ∙ ap₂ (λ (n : ℕ) (l : List ℕ). part n l) (ap (λ (r : Reading). r .offset) (reading v k)) (carried v k);
     }
 
 pub packet-is-bytes : PacketIsBytes

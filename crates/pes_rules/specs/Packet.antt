@@ -84,7 +84,7 @@ refusal s = firstOf (refusalLines s)
 
 -- "a refusal gives zeros and an empty part"
 abbrev pub refused : ℕ → Reading
-refused number = record { answer = number; extended = false; rated = false; extension = 0; rate = 0; start = 0; end = 0 }
+refused number = record { answer = number; extended = false; rated = false; extension = 0; rate = 0; offset = 0; end = 0 }
 
 -- "5 with both flags, the extension and rate values (0 where unflagged) and the data part", which goes to the packet's end
 abbrev pub taken : List ℕ → Reading
@@ -95,7 +95,7 @@ taken s =
       rated = outputDataRateFlag s;
       extension = ptsExtension s;
       rate = outputDataRate s;
-      start = dataOffset s;
+      offset = dataOffset s;
       end = length s;
     }
 
@@ -105,8 +105,8 @@ readOf s = pick (eqb (refusal s) 0) (taken s) (refused (refusal s))
 
 -- the data
 abbrev pub dataOf : List ℕ → List ℕ
-dataOf s = slice (readOf s .start) (readOf s .end) s
+dataOf s = slice (readOf s .offset) (readOf s .end) s
 
 -- the data part: the data, and where in the packet it stands
 abbrev pub dataPart : List ℕ → Part
-dataPart s = part (readOf s .start) (dataOf s)
+dataPart s = part (readOf s .offset) (dataOf s)

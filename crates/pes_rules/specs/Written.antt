@@ -85,7 +85,7 @@ readingOf v =
       rated = v .outputDataRateFlag;
       extension = v .ptsExtension;
       rate = v .outputDataRate;
-      start = 3 + length (optionalFields v);
+      offset = 3 + length (optionalFields v);
       end = length (packetOf v);
     }
 
@@ -94,7 +94,7 @@ dataPartOf v = part (3 + length (optionalFields v)) (v .dataBytes)
 
 -- "a refusal gives zeros and an empty part"
 abbrev pub zeros : ℕ → Reading
-zeros k = record { answer = k; extended = false; rated = false; extension = 0; rate = 0; start = 0; end = 0 }
+zeros k = record { answer = k; extended = false; rated = false; extension = 0; rate = 0; offset = 0; end = 0 }
 
 -- ---- theorems
 -- what the reader has for a packet is this reading and this part

@@ -8,6 +8,6 @@ pub struct Reading {
     pub rated: bool,
     pub extension: u16,
     pub rate: u32,
-    pub start: usize,
+    pub offset: usize,
     pub end: usize,
 }

@@ -48,14 +48,14 @@ fn key_of(s: &[u8]) -> Key
 {
     Key {
         last: last_section_number(s) as usize,
-        flag: llc_snap_flag(s),
+        llc_snap: llc_snap_flag(s),
     }
 }
 
 fn same_key(a: Key, b: Key) -> bool
     ensures { λ r. ⌜ r ≡ sameKey a b ⌝ }
 {
-    both(a.last == b.last, a.flag == b.flag)
+    both(a.last == b.last, a.llc_snap == b.llc_snap)
 }
 
 fn continues(next: usize, key: Key, s: &[u8]) -> bool

@@ -18,7 +18,7 @@ use Rattle.rules.specs.declared.Answer.the-variants.{Delivered, PassedBy
 use Rattle.rules.specs.declared.Settings.{Settings}
 use Rattle.rules.specs.declared.State.{State}
 use Rattle.rules.specs.declared.State.the-variants.{Idle, Open}
-use Rattle.rules.specs.After.{NamedByNumber, ReceiverAfter, ReceiverGives, ReceiverNames, runBehind, SenderAfter, SenderGives, stored, storedAt}
+use Rattle.rules.specs.After.{NamedByNumber, ReceiverAfter, ReceiverGives, ReceiverNames, runAfter, SenderAfter, SenderGives, stored, storedAt}
 use Rattle.rules.specs.Check.{checkLines, sharedLines, formLines, orderLines}
 use Rattle.rules.specs.Meaning.{filledBefore}
 use Rattle.rules.specs.Section.{lastSectionNumber, llcSnapFlag, payload, sectionNumber}
@@ -133,7 +133,7 @@ kept-after σ s b f e = rw (laid-is f s b, stored-is s, ← e) (go (eqb (byteAt 
   where
     go : (t : Bool) → let g : ℕ = filledBefore σ (byteAt s 6) in
         After σ s b (pick t (outcome (Delivered (g + length (stored s))) Idle (storedAt g (stored s) b))
-        (outcome Stored (runBehind s (g + length (stored s))) (storedAt g (stored s) b)))
+        (outcome Stored (runAfter s (g + length (stored s))) (storedAt g (stored s) b)))
     go true =
         record {
           refused = λ _ _ e. absurd (e refl);
@@ -194,23 +194,23 @@ receiver-names c σ s b =
 -- ---- the sender
 pub sender-gives : SenderGives
 unfolding sendingNumber sendingLength written
-sender-gives c flag n u out = go (ℕ-discrete (firstOf (sendLines c flag n u out)) 0)
+sender-gives c llcSnap n u out = go (ℕ-discrete (firstOf (sendLines c llcSnap n u out)) 0)
   where
-    go : Dec (firstOf (sendLines c flag n u out) ≡ 0) → let o : SendOutcome = sentOf c flag n u out in
-        SenderAfter c flag n u out (sendingNumber (o .sending)) (sendingLength (o .sending)) (o .output)
+    go : Dec (firstOf (sendLines c llcSnap n u out) ≡ 0) → let o : SendOutcome = sentOf c llcSnap n u out in
+        SenderAfter c llcSnap n u out (sendingNumber (o .sending)) (sendingLength (o .sending)) (o .output)
     go (yes q) =
-        let a = accepted c flag n u out q in
-        rw (sent-is c flag n u out q)
+        let a = accepted c llcSnap n u out q in
+        rw (sent-is c llcSnap n u out q)
         (record {
           refused = λ e. absurd (e refl);
           sent = λ _.
               record {
-                bytes = flatten (sections c flag n u);
-                sections = sections-sent c flag n u (a .some) _ refl;
+                bytes = flatten (sections c llcSnap n u);
+                sections = sections-sent c llcSnap n u (a .some) _ refl;
                 long = refl;
-                is = rw (take-all (length out) (flatten (sections c flag n u)) (a .room));
+                is = rw (take-all (length out) (flatten (sections c llcSnap n u)) (a .room));
               };
         })
     go (no q) =
-        rw (unsent-is c flag n u out q)
+        rw (unsent-is c llcSnap n u out q)
         (record { refused = λ _. (refl, refl); sent = λ e. absurd (q e) })

@@ -67,24 +67,24 @@ room-enough : (b : List ℕ) (n : ℕ) → n ≤ 65535 → n ≤ length b → n 
 unfolding room
 room-enough b n h k = omega arith
 
-module _ (c : Settings) (flag : Bool) (n : ℕ) (u out : List ℕ) (a : Accepted c flag n u out) where
+module _ (c : Settings) (llcSnap : Bool) (n : ℕ) (u out : List ℕ) (a : Accepted c llcSnap n u out) where
   abbrev count : ℕ
   count = sectionCount n u
 
   abbrev to : ℕ → List (List ℕ)
-  to k = sectionsTo c flag n u k
+  to k = sectionsTo c llcSnap n u k
 
   abbrev at : ℕ → List ℕ
-  at i = sectionAt c flag n u i
+  at i = sectionAt c llcSnap n u i
 
   -- what the sections agree on
   abbrev key : Key
-  key = record { last = count - 1; flag = flag }
+  key = record { last = count - 1; «llc_snap» = llcSnap }
 
   receivable : (i : ℕ) → i < count → Receivable c (at i)
   unfolding sectionAt ours
   receivable i h =
-      let w = section-written c flag n u (a .some) (a .most) i h in
+      let w = section-written c llcSnap n u (a .some) (a .most) i h in
       let last : count - 1 + 1 ≤ c .limit = omega (arith, a .limit) in
       record {
         sound = w .sound;
@@ -98,10 +98,10 @@ module _ (c : Settings) (flag : Bool) (n : ℕ) (u out : List ℕ) (a : Accepted
   in-words i h =
       let p : List ℕ = piece n u i in
       let most : length p ≤ 4080 = omega (arith, piece-small n u i, a .most) in (
-        sent (c .address) flag i (count - 1) p,
-        sent-is (c .address) flag i (count - 1) p,
+        sent (c .address) llcSnap i (count - 1) p,
+        sent-is (c .address) llcSnap i (count - 1) p,
         record {
-          limits = sent-limits (c .address) flag i (count - 1) p (omega arith) most;
+          limits = sent-limits (c .address) llcSnap i (count - 1) p (omega arith) most;
           own = λ j l. refl;
           clear = refl;
           within = omega (arith, a .limit);
@@ -111,13 +111,13 @@ module _ (c : Settings) (flag : Bool) (n : ℕ) (u out : List ℕ) (a : Accepted
   agreed : (i : ℕ) → i < count → InRun c key i (at i)
   unfolding sectionAt keyOf
   agreed i h =
-      let w = section-written c flag n u (a .some) (a .most) i h in
+      let w = section-written c llcSnap n u (a .some) (a .most) i h in
       record { receivable = receivable i h; numbered = w .numbered; agrees = rw (w .ending, w .flagged) }
 
   framed : (i : ℕ) → i < count → Framed (at i)
   unfolding sectionAt sectionOf sealed header sectionLength numberAt
   framed i h =
-      let size = section-size (c .address) flag i (count - 1) (piece n u i) in
+      let size = section-size (c .address) llcSnap i (count - 1) (piece n u i) in
       let most : length (piece n u i) ≤ 4080 = omega (arith, piece-small n u i, a .most) in
       record { head = omega arith; whole = omega arith }
 
@@ -136,9 +136,9 @@ module _ (c : Settings) (flag : Bool) (n : ℕ) (u out : List ℕ) (a : Accepted
           run =
               record {
                 each = λ i l.
-                    let m : i < k = omega (arith, sections-length c flag n u k) in
-                    rw (sections-at c flag n u k i m) (agreed i (omega arith));
-                fits = rw (joined-to c flag n u (a .some) (a .most) k h, length-take) (omega arith);
+                    let m : i < k = omega (arith, sections-length c llcSnap n u k) in
+                    rw (sections-at c llcSnap n u k i m) (agreed i (omega arith));
+                fits = rw (joined-to c llcSnap n u (a .some) (a .most) k h, length-take) (omega arith);
               };
           there = record { front = []; split = refl };
         }
@@ -171,7 +171,7 @@ module _ (c : Settings) (flag : Bool) (n : ℕ) (u out : List ℕ) (a : Accepted
     run-next k h = rw (← map-more section (to k) (at k)) (run-to (suc k) h)
 
     some-to : (k : ℕ) → 0 < length (to (suc k))
-    some-to k = omega (arith, sections-length c flag n u (suc k))
+    some-to k = omega (arith, sections-length c llcSnap n u (suc k))
 
     outcomes : (k : ℕ) → k < count → {now : List ℕ} {o : Outcome} → Due c b (row k) now (at k) o → Outcomes k o
     unfolding finish sections
@@ -181,7 +181,7 @@ module _ (c : Settings) (flag : Bool) (n : ℕ) (u out : List ℕ) (a : Accepted
         let is : suc k ≡ count = omega (arith, p .numbered, ap (λ (κ : Key). κ .last) (p .agrees)) in
         let same = only c b (g .run) (run-next k h) (omega (arith, g .count)) (some-to k) in
         let all : joined (g .sections) ≡ u =
-        ap joined (same .sections ∙ ap to is) ∙ sections-joined c flag n u (a .some) (a .most) in
+        ap joined (same .sections ∙ ap to is) ∙ sections-joined c llcSnap n u (a .some) (a .most) in
         let size : f ≡ length u = sym (g .filled) ∙ ap length all in
         record {
           stored = λ l. absurd (omega arith);
@@ -202,7 +202,7 @@ module _ (c : Settings) (flag : Bool) (n : ℕ) (u out : List ℕ) (a : Accepted
         ap₂ (λ (before : List (List ℕ)) (s : List ℕ).
         let held : Held = after c (fresh b) (map section before) in
         stepOf c (held .state) s (held .buffer) .step .answer)
-        (sections-take c flag n u count i (omega arith)) (sections-at c flag n u count i h)
+        (sections-take c llcSnap n u count i (omega arith)) (sections-at c llcSnap n u count i h)
 
     unit-at : (k : ℕ) → k + 1 ≡ count → take (length u) (held (suc k) .buffer) ≡ u
     unfolding sectionsTo next
@@ -212,9 +212,9 @@ module _ (c : Settings) (flag : Bool) (n : ℕ) (u out : List ℕ) (a : Accepted
 
     arrives : Arrives c b (to count) u
     arrives =
-        let l = sections-length c flag n u count in
+        let l = sections-length c llcSnap n u count in
         record {
-          receivable = λ i h. rw (sections-at c flag n u count i (omega arith)) (in-words i (omega arith));
+          receivable = λ i h. rw (sections-at c llcSnap n u count i (omega arith)) (in-words i (omega arith));
           stored = λ i h. answer-at i (omega arith) ∙ outcome-at i (omega arith) .stored (omega arith);
           delivered = λ i h. answer-at i (omega arith) ∙ outcome-at i (omega arith) .delivered (omega arith);
           unit = last (count - 1) (omega (arith, count-some n u));
@@ -225,18 +225,18 @@ module _ (c : Settings) (flag : Bool) (n : ℕ) (u out : List ℕ) (a : Accepted
 
 pub round-trip : RoundTrip
 unfolding sections
-round-trip c flag n u out m p =
-    let g : SentAll c flag n u out m = sent-all c flag n u out m p in
+round-trip c llcSnap n u out m p =
+    let g : SentAll c llcSnap n u out m = sent-all c llcSnap n u out m p in
     let a = g .accepted in
-    let xs : List (List ℕ) = sections c flag n u in
-    let bytes : take m (sentOf c flag n u out .output) ≡ flatten xs = sent-all-bytes c flag n u out m g in
-    let cut : offers (take m (sentOf c flag n u out .output)) ≡ xs =
+    let xs : List (List ℕ) = sections c llcSnap n u in
+    let bytes : take m (sentOf c llcSnap n u out .output) ≡ flatten xs = sent-all-bytes c llcSnap n u out m g in
+    let cut : offers (take m (sentOf c llcSnap n u out .output)) ≡ xs =
     ap offers bytes
     ∙ offers-sections xs (λ i h.
-    let k : i < sectionCount n u = omega (arith, sections-length c flag n u (sectionCount n u)) in
-    rw (sections-at c flag n u (sectionCount n u) i k) (framed c flag n u out a i k)) in
+    let k : i < sectionCount n u = omega (arith, sections-length c llcSnap n u (sectionCount n u)) in
+    rw (sections-at c llcSnap n u (sectionCount n u) i k) (framed c llcSnap n u out a i k)) in
     record {
-      sections = sections-sent c flag n u (a .some) _ bytes;
-      offered = cut ∙ sym (sections-are c flag n u (a .some) _ bytes);
-      arrives = λ b h. rw (sections-are c flag n u (a .some) _ bytes) (arrives c flag n u out a b (room-enough b (length u) (a .unit) h));
+      sections = sections-sent c llcSnap n u (a .some) _ bytes;
+      offered = cut ∙ sym (sections-are c llcSnap n u (a .some) _ bytes);
+      arrives = λ b h. rw (sections-are c llcSnap n u (a .some) _ bytes) (arrives c llcSnap n u out a b (room-enough b (length u) (a .unit) h));
     }

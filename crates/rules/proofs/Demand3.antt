@@ -122,7 +122,7 @@ struck-some c (x ∷ q) t e n (inl h) = struck-some c q t e n (h .1)
 struck-some c (x ∷ q) t e n (inr h) = omega (arith, ap length (h .1 .1))
 
 -- ---- one section of a run
-member-read : (c : Settings) (κ : Key) (i : ℕ) (s : List ℕ) → Bytes s → tested.InRun c κ i s → InRun c (κ .last) (κ .flag) i (read s)
+member-read : (c : Settings) (κ : Key) (i : ℕ) (s : List ℕ) → Bytes s → tested.InRun c κ i s → InRun c (κ .last) (κ .«llc_snap») i (read s)
 unfolding read keyOf
 member-read c κ i s b p =
     record {
@@ -135,16 +135,16 @@ member-read c κ i s b p =
           };
       numbered = p .numbered;
       ending = ap (λ (k : Key). k .last) (p .agrees);
-      flagged = ap (λ (k : Key). k .flag) (p .agrees);
+      flagged = ap (λ (k : Key). k .«llc_snap») (p .agrees);
     }
 
-member-written : (c : Settings) (κ : Key) (i : ℕ) (v : Values) → InRun c (κ .last) (κ .flag) i v
+member-written : (c : Settings) (κ : Key) (i : ℕ) (v : Values) → InRun c (κ .last) (κ .«llc_snap») i v
     → tested.InRun c κ i (table3 v)
 unfolding keyOf
 member-written c κ i v p =
     let k : Receivable c v = p .receivable in
     let last : lastSectionNumber (table3 v) ≡ κ .last = last-back v ∙ p .ending in
-    let flag : llcSnapFlag (table3 v) ≡ κ .flag = flagged-back v (k .limits) ∙ p .flagged in
+    let llcSnap : llcSnapFlag (table3 v) ≡ κ .«llc_snap» = flagged-back v (k .limits) ∙ p .flagged in
     record {
       receivable =
           record {
@@ -154,7 +154,7 @@ member-written c κ i v p =
             within = omega (arith, last-back v, k .within);
           };
       numbered = number-back v ∙ p .numbered;
-      agrees = λ i. record { last = last i; flag = flag i };
+      agrees = λ i. record { last = last i; «llc_snap» = llcSnap i };
     }
 
 -- ---- lists of them
@@ -228,14 +228,14 @@ module _ (c : Settings) (b : List ℕ) where
       record {
         good = good;
         last = u .key .last;
-        flag = u .key .flag;
+        llcSnap = u .key .«llc_snap»;
         each = each;
         whole = length-map xs read ∙ u .whole;
         unit = rw (joined-read xs) (omega (arith, u .run .fits, room-bounds b .0));
         room = rw (joined-read xs) (omega (arith, u .run .fits, room-bounds b .1));
       }
     where
-      each : (front back : List Values) (v : Values) → map read xs ≡ front ++ (v ∷ back) → InRun c (u .key .last) (u .key .flag) (length front) v
+      each : (front back : List Values) (v : Values) → map read xs ≡ front ++ (v ∷ back) → InRun c (u .key .last) (u .key .«llc_snap») (length front) v
       each front back v p =
           let i : ℕ = length front in
           let h : i < length xs = omega (arith, length-map xs read, ap length p, length-append front (v ∷ back)) in
@@ -243,7 +243,7 @@ module _ (c : Settings) (b : List ℕ) where
           sym (List·getD-map read xs i []) ∙ ap (λ (l : List Values). getD l i (read [])) p ∙ getD-append-seam front v back (read []) in
           rw is at (member-read c (u .key) i (getD xs i []) (bytes i h) (u .run .each i h))
 
-  member-at : (vs : List Values) (u : WholeRun c b vs) (i : ℕ) → i < length vs → InRun c (u .last) (u .flag) i (getD vs i (read []))
+  member-at : (vs : List Values) (u : WholeRun c b vs) (i : ℕ) → i < length vs → InRun c (u .last) (u .llcSnap) i (getD vs i (read []))
   member-at vs u i h =
       let v : Values = getD vs i (read []) in
       rw (length-take-le i vs (omega arith)) at (u .each (take i vs) (drop (suc i) vs) v (split-at vs i (read []) h))
@@ -251,7 +251,7 @@ module _ (c : Settings) (b : List ℕ) where
   run-written : (vs : List Values) → WholeRun c b vs → tested.WholeRun c b (map table3 vs)
   unfolding room
   run-written vs u =
-      let first : InRun c (u .last) (u .flag) 0 (getD vs 0 (read [])) = member-at vs u 0 (omega (arith, u .whole)) in
+      let first : InRun c (u .last) (u .llcSnap) 0 (getD vs 0 (read [])) = member-at vs u 0 (omega (arith, u .whole)) in
       record {
         key = key;
         run = record { each = each; fits = rw (joined-written vs) (omega (arith, u .unit, u .room)) };
@@ -260,7 +260,7 @@ module _ (c : Settings) (b : List ℕ) where
       }
     where
       key : Key
-      key = record { last = u .last; flag = u .flag }
+      key = record { last = u .last; «llc_snap» = u .llcSnap }
 
       each : (i : ℕ) → i < length (map table3 vs) → tested.InRun c key i (getD (map table3 vs) i [])
       each i l =

@@ -12,7 +12,7 @@ unfolding read
 read-back v l =
     let addressed : address (table3 v) ≡ v .address = places v in
     let scrambling : payloadScramblingControl (table3 v) ≡ v .scrambling = clear-back v l in
-    let flag : llcSnapFlag (table3 v) ≡ v .flag = flagged-back v l in
+    let llcSnap : llcSnapFlag (table3 v) ≡ v .llcSnap = flagged-back v l in
     let number : sectionNumber (table3 v) ≡ v .number = number-back v in
     let last : lastSectionNumber (table3 v) ≡ v .last = last-back v in
     let carries : payload (table3 v) ≡ v .payload = carried v in
@@ -22,7 +22,7 @@ read-back v l =
     record {
       address = addressed i;
       scrambling = scrambling i;
-      flag = flag i;
+      llcSnap = llcSnap i;
       number = number i;
       last = last i;
       payload = carries i;

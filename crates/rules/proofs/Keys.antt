@@ -22,9 +22,9 @@ unfolding sameKey
 same-key a d p =
     let parts = both-true _ _ p in
     let last : a .last ≡ d .last = eqb-true (a .last) (d .last) (parts .0) in
-    let flag : a .flag ≡ d .flag = flag-true (a .flag) (d .flag) (parts .1) in
-    λ i. record { last = last i; flag = flag i }
+    let llcSnap : a .«llc_snap» ≡ d .«llc_snap» = flag-true (a .«llc_snap») (d .«llc_snap») (parts .1) in
+    λ i. record { last = last i; «llc_snap» = llcSnap i }
 
 pub key-same : (a d : Key) → a ≡ d → sameKey a d ≡ true
 unfolding sameKey both
-key-same a d p = rw (p, eq-eqb (d .last) (d .last) refl, flag-refl (d .flag))
+key-same a d p = rw (p, eq-eqb (d .last) (d .last) refl, flag-refl (d .«llc_snap»))

@@ -84,7 +84,7 @@ flag-tells x t h = go (eqb x 1) refl t
 continues-tells : (e f : ℕ) (κ : Key) (s : List ℕ) → Tells (continues e κ s) (GoesOn (Open e f κ) s)
 unfolding continues sameKey keyOf GoesOn sectionNumber lastSectionNumber llcSnapFlag
 continues-tells e f κ s =
-    let t = tells-both _ _ (tells-eq (byteAt s 6) e) (tells-both _ _ (tells-eq (byteAt s 7) (κ .last)) (flag-tells (bit 1 (byteAt s 5)) (κ .flag) (omega arith))) in
+    let t = tells-both _ _ (tells-eq (byteAt s 6) e) (tells-both _ _ (tells-eq (byteAt s 7) (κ .last)) (flag-tells (bit 1 (byteAt s 5)) (κ .«llc_snap») (omega arith))) in
     (λ p. let w = t .0 p in (w .0, w .1 .0, w .1 .1), λ w. t .1 (w .0, (w .1, w .2)))
 
 -- ---- the number of an outcome
@@ -211,25 +211,25 @@ unfolding pick
 sending-pick true o r = refl
 sending-pick false o r = refl
 
-number-sent : (c : Settings) (flag : Bool) (size : ℕ) (u out : List ℕ)
-    → sendingNumber (sentOf c flag size u out .sending) ≡ orElse (sendLines c flag size u out) 0
+number-sent : (c : Settings) (llcSnap : Bool) (size : ℕ) (u out : List ℕ)
+    → sendingNumber (sentOf c llcSnap size u out .sending) ≡ orElse (sendLines c llcSnap size u out) 0
 unfolding sentOf sendingNumber written without both sendLines
-number-sent c flag size u out =
-    sending-pick (eqb (firstOf (sendLines c flag size u out)) 0) _ _ ∙ or-else (sendLines c flag size u out) 0 refl
+number-sent c llcSnap size u out =
+    sending-pick (eqb (firstOf (sendLines c llcSnap size u out)) 0) _ _ ∙ or-else (sendLines c llcSnap size u out) 0 refl
 
 pub sender-means : SenderMeans
 unfolding orElse sendLines
-sender-means c flag size u out n =
-    rw (number-sent c flag size u out)
+sender-means c llcSnap size u out n =
+    rw (number-sent c llcSnap size u out)
     (gives-row _ 10 (tells-not _ (good-is c)) (λ _.
     gives-row _ 50 (tells-outside 1 4080 size) (λ e50.
     gives-row _ 51 (tells-lt 65535 (length u)) (λ _.
     let some : 0 < size = leb-true 1 size (both-true _ _ (not-false _ e50) .0) in
     gives-row _ 52 (counted size u some _ (λ k. c .limit < k) (tells-lt (c .limit) (sectionCount size u))) (λ _.
     gives-row _ 53
-    (counted size u some (ltb (length out) (length (flatten (sections c flag size u)))) (λ k. length out < length u + 16 * k)
-    (rw (sections-bytes c flag size u some) (tells-lt (length out) (length u + 16 * sectionCount size u)))) (λ _.
+    (counted size u some (ltb (length out) (length (flatten (sections c llcSnap size u)))) (λ k. length out < length u + 16 * k)
+    (rw (sections-bytes c llcSnap size u some) (tells-lt (length out) (length u + 16 * sectionCount size u)))) (λ _.
     gives-last 0 tt))))) .exactly n)
 
 pub default-means : DefaultMeans
-default-means c flag u out n = sender-means c flag 4080 u out n
+default-means c llcSnap u out n = sender-means c llcSnap 4080 u out n

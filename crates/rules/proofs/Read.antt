@@ -24,7 +24,7 @@ read s =
     record {
       address = address s;
       scrambling = payloadScramblingControl s;
-      flag = llcSnapFlag s;
+      llcSnap = llcSnapFlag s;
       number = sectionNumber s;
       last = lastSectionNumber s;
       payload = payload s;

@@ -22,12 +22,12 @@ unfolding joined
 joined-more [] v = append-nil (v .payload)
 joined-more (w ∷ vs) v = rw (joined-more vs v, append-assoc)
 
-module _ (c : Settings) (flag : Bool) (n : ℕ) (u : List ℕ) where
+module _ (c : Settings) (llcSnap : Bool) (n : ℕ) (u : List ℕ) where
   abbrev count : ℕ
   count = sectionCount n u
 
   abbrev value : ℕ → Values
-  value i = sent (c .address) flag i (count - 1) (piece n u i)
+  value i = sent (c .address) llcSnap i (count - 1) (piece n u i)
 
   unfoldable valuesTo : ℕ → List Values
   valuesTo zero = []
@@ -49,18 +49,18 @@ module _ (c : Settings) (flag : Bool) (n : ℕ) (u : List ℕ) where
           let is : k ≡ i = omega arith in
           getD-at (valuesTo k) (value k) [] (value 0) i (values-length k ∙ is) ∙ ap value is
 
-  values-written : (k : ℕ) → map table3 (valuesTo k) ≡ sectionsTo c flag n u k
+  values-written : (k : ℕ) → map table3 (valuesTo k) ≡ sectionsTo c llcSnap n u k
   unfolding valuesTo sectionsTo sectionAt
   values-written zero = refl
   values-written (suc k) =
-      rw (map-more table3 (valuesTo k) (value k), values-written k, sent-is (c .address) flag k (count - 1) (piece n u k))
+      rw (map-more table3 (valuesTo k) (value k), values-written k, sent-is (c .address) llcSnap k (count - 1) (piece n u k))
 
   values-joined : (k : ℕ) → joined (valuesTo k) ≡ take (k * n) u
   unfolding valuesTo joined
   values-joined zero = rw (zero-mul n)
   values-joined (suc k) = rw (joined-more (valuesTo k) (value k), values-joined k) (pieces-more n u k)
 
-  sections-written : map table3 (valuesTo count) ≡ sections c flag n u
+  sections-written : map table3 (valuesTo count) ≡ sections c llcSnap n u
   unfolding sections
   sections-written = values-written count
 
@@ -72,7 +72,7 @@ module _ (c : Settings) (flag : Bool) (n : ℕ) (u : List ℕ) where
       let step : suc i * n ≡ i * n + n = suc-mul i n in
       simp length-take (omega (arith, length-drop (i * n) u))
 
-  pub sections-sent : 0 < n → (bytes : List ℕ) → bytes ≡ flatten (sections c flag n u) → Sections c flag n u bytes
+  pub sections-sent : 0 < n → (bytes : List ℕ) → bytes ≡ flatten (sections c llcSnap n u) → Sections c llcSnap n u bytes
   sections-sent some bytes e =
       record {
         values = valuesTo count;
@@ -83,7 +83,7 @@ module _ (c : Settings) (flag : Bool) (n : ℕ) (u : List ℕ) where
       }
     where
       each : (front back : List Values) (v : Values) → valuesTo count ≡ front ++ (v ∷ back)
-          → SectionSent c flag n (length (valuesTo count)) (length front) v
+          → SectionSent c llcSnap n (length (valuesTo count)) (length front) v
       each front back v p =
           let i : ℕ = length front in
           let h : i < count = omega (arith, values-length count, ap length p, length-append front (v ∷ back)) in
@@ -102,7 +102,7 @@ module _ (c : Settings) (flag : Bool) (n : ℕ) (u : List ℕ) where
           })
 
   -- and one by one they are the sections
-  pub sections-are : (some : 0 < n) (bytes : List ℕ) (e : bytes ≡ flatten (sections c flag n u))
-      → map table3 (sections-sent some bytes e .values) ≡ sections c flag n u
+  pub sections-are : (some : 0 < n) (bytes : List ℕ) (e : bytes ≡ flatten (sections c llcSnap n u))
+      → map table3 (sections-sent some bytes e .values) ≡ sections c llcSnap n u
   unfolding sections-sent
   sections-are some bytes e = sections-written

@@ -26,20 +26,20 @@ use Rattle.rules.proofs.Written.{sealed-length, Written, written-is-rea
 
 -- ---- what is accepted
 -- none of 10 and 50 to 53 applies
-pub record Accepted (c : Settings) (flag : Bool) (size : ℕ) (u out : List ℕ) : Type 0 where
+pub record Accepted (c : Settings) (llcSnap : Bool) (size : ℕ) (u out : List ℕ) : Type 0 where
   pub settings : Good c
   pub some : 1 ≤ size
   pub most : size ≤ 4080
   pub unit : length u ≤ 65535
   pub limit : sectionCount size u ≤ c .limit
-  pub room : length (flatten (sections c flag size u)) ≤ length out
+  pub room : length (flatten (sections c llcSnap size u)) ≤ length out
 
 -- the numbers of its sections are bytes
-pub count-byte : {c : Settings} {flag : Bool} {n : ℕ} {u out : List ℕ} → Accepted c flag n u out → sectionCount n u ≤ 255
+pub count-byte : {c : Settings} {llcSnap : Bool} {n : ℕ} {u out : List ℕ} → Accepted c llcSnap n u out → sectionCount n u ≤ 255
 count-byte a = omega (arith, a .limit, a .settings .limit255)
 
-module _ (c : Settings) (flag : Bool) (n : ℕ) (u out : List ℕ) where
-  pub accepted : firstOf (sendLines c flag n u out) ≡ 0 → Accepted c flag n u out
+module _ (c : Settings) (llcSnap : Bool) (n : ℕ) (u out : List ℕ) where
+  pub accepted : firstOf (sendLines c llcSnap n u out) ≡ 0 → Accepted c llcSnap n u out
   unfolding sendLines
   accepted p =
       let t10 = none-first _ _ (omega arith) p in
@@ -58,50 +58,50 @@ module _ (c : Settings) (flag : Bool) (n : ℕ) (u out : List ℕ) where
       }
 
   -- ---- the outcome
-  pub unsent-is : (firstOf (sendLines c flag n u out) ≡ 0 → ⊥)
-      → sentOf c flag n u out ≡ record { sending = Unsent (firstOf (sendLines c flag n u out)); output = out }
+  pub unsent-is : (firstOf (sendLines c llcSnap n u out) ≡ 0 → ⊥)
+      → sentOf c llcSnap n u out ≡ record { sending = Unsent (firstOf (sendLines c llcSnap n u out)); output = out }
   unfolding sentOf pick
   unsent-is h = rw (ne-eqb _ 0 h)
 
-  pub sent-is : firstOf (sendLines c flag n u out) ≡ 0 → sentOf c flag n u out ≡ written c flag n u out
+  pub sent-is : firstOf (sendLines c llcSnap n u out) ≡ 0 → sentOf c llcSnap n u out ≡ written c llcSnap n u out
   unfolding sentOf pick
   sent-is h = rw (eq-eqb _ 0 h)
 
   -- the number 0 is sent-all only with what is sent
-  pub sent-by-number : sendingNumber (sentOf c flag n u out .sending) ≡ 0
-      → sentOf c flag n u out .sending ≡ Sent (sendingLength (sentOf c flag n u out .sending))
+  pub sent-by-number : sendingNumber (sentOf c llcSnap n u out .sending) ≡ 0
+      → sentOf c llcSnap n u out .sending ≡ Sent (sendingLength (sentOf c llcSnap n u out .sending))
   unfolding written sendingNumber sendingLength
-  sent-by-number h = go (ℕ-discrete (firstOf (sendLines c flag n u out)) 0)
+  sent-by-number h = go (ℕ-discrete (firstOf (sendLines c llcSnap n u out)) 0)
     where
-      go : Dec (firstOf (sendLines c flag n u out) ≡ 0)
-          → sentOf c flag n u out .sending ≡ Sent (sendingLength (sentOf c flag n u out .sending))
+      go : Dec (firstOf (sendLines c llcSnap n u out) ≡ 0)
+          → sentOf c llcSnap n u out .sending ≡ Sent (sendingLength (sentOf c llcSnap n u out .sending))
       go (yes q) = rw (sent-is q)
       go (no q) = absurd (q (rw (unsent-is q) at h))
 
   -- ---- what a sender that refuses nothing gives
   pub record SentAll (m : ℕ) : Type 0 where
-    pub accepted : Accepted c flag n u out
-    pub size : m ≡ length (flatten (sections c flag n u))
-    pub output : sentOf c flag n u out .output ≡ over (flatten (sections c flag n u)) out
+    pub accepted : Accepted c llcSnap n u out
+    pub size : m ≡ length (flatten (sections c llcSnap n u))
+    pub output : sentOf c llcSnap n u out .output ≡ over (flatten (sections c llcSnap n u)) out
 
-  pub sent-all : (m : ℕ) → sentOf c flag n u out .sending ≡ Sent m → SentAll m
+  pub sent-all : (m : ℕ) → sentOf c llcSnap n u out .sending ≡ Sent m → SentAll m
   unfolding written
-  sent-all m p = go (ℕ-discrete (firstOf (sendLines c flag n u out)) 0)
+  sent-all m p = go (ℕ-discrete (firstOf (sendLines c llcSnap n u out)) 0)
     where
-      go : Dec (firstOf (sendLines c flag n u out) ≡ 0) → SentAll m
+      go : Dec (firstOf (sendLines c llcSnap n u out) ≡ 0) → SentAll m
       go (yes q) =
-          let size : Sent (length (flatten (sections c flag n u))) ≡ Sent m = rw (sent-is q) at p in
+          let size : Sent (length (flatten (sections c llcSnap n u))) ≡ Sent m = rw (sent-is q) at p in
           record { accepted = accepted q; size = cc; output = ap (λ (o : SendOutcome). o .output) (sent-is q) }
       go (no q) = let other = rw (unsent-is q) at p in let z : _≡_ {A = ℕ} 0 1 = cc in absurd (omega arith)
 
   -- the m bytes sent-all are within the output
-  pub sent-all-fits : (m : ℕ) → sentOf c flag n u out .sending ≡ Sent m → m ≤ length out
+  pub sent-all-fits : (m : ℕ) → sentOf c llcSnap n u out .sending ≡ Sent m → m ≤ length out
   sent-all-fits m p = let g = sent-all m p in omega (arith, g .size, g .accepted .room)
 
   -- the m bytes sent-all are the sections
-  pub sent-all-bytes : (m : ℕ) → SentAll m → take m (sentOf c flag n u out .output) ≡ flatten (sections c flag n u)
+  pub sent-all-bytes : (m : ℕ) → SentAll m → take m (sentOf c llcSnap n u out .output) ≡ flatten (sections c llcSnap n u)
   sent-all-bytes m g =
-      let bytes : List ℕ = flatten (sections c flag n u) in
+      let bytes : List ℕ = flatten (sections c llcSnap n u) in
       rw (g .output, take-all (length out) bytes (g .accepted .room)) (take-at bytes (drop (length bytes) out) m (sym (g .size)))
 
 -- ---- how many sections
@@ -178,23 +178,23 @@ pub pieces-all : (n : ℕ) (u : List ℕ) → 0 < n → take (sectionCount n u *
 pieces-all n u some = take-all (sectionCount n u * n) u (count-covers n u some)
 
 -- ---- the sections
-pub section-size : (a : Address) (flag : Bool) (number last : ℕ) (p : List ℕ)
-    → length (sectionOf a flag number last p) ≡ length p + 16
+pub section-size : (a : Address) (llcSnap : Bool) (number last : ℕ) (p : List ℕ)
+    → length (sectionOf a llcSnap number last p) ≡ length p + 16
 unfolding sectionOf header
-section-size a flag number last p = sealed-length (header a flag number last (length p + 13) ++ p) ∙ omega arith
+section-size a llcSnap number last p = sealed-length (header a llcSnap number last (length p + 13) ++ p) ∙ omega arith
 
 flatten-more : (xs : List (List ℕ)) (s : List ℕ) → flatten (xs ++ (s ∷ [])) ≡ flatten xs ++ s
 unfolding flatten
 flatten-more [] s = append-nil s
 flatten-more (x ∷ xs) s = rw (flatten-more xs s, append-assoc)
 
-module _ (c : Settings) (flag : Bool) (n : ℕ) (u : List ℕ) where
-  pub bytes-more : (k : ℕ) → flatten (sectionsTo c flag n u (suc k)) ≡ flatten (sectionsTo c flag n u k) ++ sectionAt c flag n u k
+module _ (c : Settings) (llcSnap : Bool) (n : ℕ) (u : List ℕ) where
+  pub bytes-more : (k : ℕ) → flatten (sectionsTo c llcSnap n u (suc k)) ≡ flatten (sectionsTo c llcSnap n u k) ++ sectionAt c llcSnap n u k
   unfolding sectionsTo
-  bytes-more k = flatten-more (sectionsTo c flag n u k) (sectionAt c flag n u k)
+  bytes-more k = flatten-more (sectionsTo c llcSnap n u k) (sectionAt c llcSnap n u k)
 
   -- what k sections and the unit behind them have: the unit's bytes, and 16 more for each
-  pub bytes-to : (k : ℕ) → length (flatten (sectionsTo c flag n u k)) + length (drop (k * n) u) ≡ length u + 16 * k
+  pub bytes-to : (k : ℕ) → length (flatten (sectionsTo c llcSnap n u k)) + length (drop (k * n) u) ≡ length u + 16 * k
   unfolding sectionsTo flatten sectionAt piece
   bytes-to zero = rw (zero-mul n) (omega arith)
   bytes-to (suc k) =
@@ -202,54 +202,54 @@ module _ (c : Settings) (flag : Bool) (n : ℕ) (u : List ℕ) where
       (omega (arith, bytes-to k, length-drop n (drop (k * n) u)))
 
   -- the total length
-  pub sections-bytes : 0 < n → length (flatten (sections c flag n u)) ≡ length u + 16 * sectionCount n u
+  pub sections-bytes : 0 < n → length (flatten (sections c llcSnap n u)) ≡ length u + 16 * sectionCount n u
   unfolding sections
   sections-bytes some =
       let none : drop (sectionCount n u * n) u ≡ [] = drop-of-length-le u (count-covers n u some) in
       omega (arith, bytes-to (sectionCount n u), ap length none)
 
   -- ---- each section by its number
-  pub sections-length : (k : ℕ) → length (sectionsTo c flag n u k) ≡ k
+  pub sections-length : (k : ℕ) → length (sectionsTo c llcSnap n u k) ≡ k
   unfolding sectionsTo
   sections-length zero = refl
-  sections-length (suc k) = length-more (sectionsTo c flag n u k) (sectionAt c flag n u k) ∙ omega (arith, sections-length k)
+  sections-length (suc k) = length-more (sectionsTo c llcSnap n u k) (sectionAt c llcSnap n u k) ∙ omega (arith, sections-length k)
 
   -- the first i of them
-  pub sections-take : (k i : ℕ) → i ≤ k → take i (sectionsTo c flag n u k) ≡ sectionsTo c flag n u i
+  pub sections-take : (k i : ℕ) → i ≤ k → take i (sectionsTo c llcSnap n u k) ≡ sectionsTo c llcSnap n u i
   unfolding sectionsTo
   sections-take zero i h = let is : i ≡ 0 = omega arith in rw is
   sections-take (suc k) i h = go (λ l. sections-take k i l) (decLt k i)
     where
-      go : (i ≤ k → take i (sectionsTo c flag n u k) ≡ sectionsTo c flag n u i) → Dec (k < i)
-          → take i (sectionsTo c flag n u (suc k)) ≡ sectionsTo c flag n u i
+      go : (i ≤ k → take i (sectionsTo c llcSnap n u k) ≡ sectionsTo c llcSnap n u i) → Dec (k < i)
+          → take i (sectionsTo c llcSnap n u (suc k)) ≡ sectionsTo c llcSnap n u i
       go f (yes l) =
           let is : i ≡ suc k = omega arith in
-          rw is (take-all (suc k) (sectionsTo c flag n u (suc k)) (omega (arith, sections-length (suc k))))
-      go f (no l) = take-append-le i (sectionsTo c flag n u k) _ (omega (arith, sections-length k)) ∙ f (omega arith)
+          rw is (take-all (suc k) (sectionsTo c llcSnap n u (suc k)) (omega (arith, sections-length (suc k))))
+      go f (no l) = take-append-le i (sectionsTo c llcSnap n u k) _ (omega (arith, sections-length k)) ∙ f (omega arith)
 
   -- and number i
-  pub sections-at : (k i : ℕ) → i < k → getD (sectionsTo c flag n u k) i [] ≡ sectionAt c flag n u i
+  pub sections-at : (k i : ℕ) → i < k → getD (sectionsTo c llcSnap n u k) i [] ≡ sectionAt c llcSnap n u i
   unfolding sectionsTo
   sections-at k i h =
       let more : i < suc i = omega arith in
-      sym (getD-take (suc i) (sectionsTo c flag n u k) i [] more)
+      sym (getD-take (suc i) (sectionsTo c llcSnap n u k) i [] more)
       ∙ ap (λ (xs : List (List ℕ)). getD xs i []) (sections-take k (suc i) h)
-      ∙ getD-at (sectionsTo c flag n u i) (sectionAt c flag n u i) [] [] i (sections-length i)
+      ∙ getD-at (sectionsTo c llcSnap n u i) (sectionAt c llcSnap n u i) [] [] i (sections-length i)
 
   -- what is read from section i
   module _ (some : 0 < n) (most : n ≤ 4080) where
-    pub section-written : (i : ℕ) → i < sectionCount n u → Written (c .address) flag i (sectionCount n u - 1) (piece n u i)
+    pub section-written : (i : ℕ) → i < sectionCount n u → Written (c .address) llcSnap i (sectionCount n u - 1) (piece n u i)
     section-written i h =
-        written-is-read (c .address) flag i (sectionCount n u - 1) (piece n u i) (omega arith) (omega (arith, piece-small n u i))
+        written-is-read (c .address) llcSnap i (sectionCount n u - 1) (piece n u i) (omega arith) (omega (arith, piece-small n u i))
 
-    pub joined-to : (k : ℕ) → k ≤ sectionCount n u → joined (sectionsTo c flag n u k) ≡ take (k * n) u
+    pub joined-to : (k : ℕ) → k ≤ sectionCount n u → joined (sectionsTo c llcSnap n u k) ≡ take (k * n) u
     unfolding sectionsTo joined sectionAt
     joined-to zero h = rw (zero-mul n)
     joined-to (suc k) h =
         let carried = section-written k (omega arith) .carried in
-        rw (joined-more (sectionsTo c flag n u k) (sectionAt c flag n u k), joined-to k (omega arith), carried) (pieces-more n u k)
+        rw (joined-more (sectionsTo c llcSnap n u k) (sectionAt c llcSnap n u k), joined-to k (omega arith), carried) (pieces-more n u k)
 
     -- the payloads, joined, are the unit
-    pub sections-joined : joined (sections c flag n u) ≡ u
+    pub sections-joined : joined (sections c llcSnap n u) ≡ u
     unfolding sections
     sections-joined = joined-to (sectionCount n u) (le-refl (sectionCount n u)) ∙ pieces-all n u some

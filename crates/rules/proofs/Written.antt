@@ -40,12 +40,12 @@ pub record Byte5 (r p f x : ℕ) : Type 0 where
   pub reserved : x / 64 % 4 ≡ r
   pub scrambling : x / 16 % 4 ≡ p
   pub addressed : x / 4 % 4 ≡ 0
-  pub flag : x / 2 % 2 ≡ f
+  pub llcSnap : x / 2 % 2 ≡ f
   pub current : x / 1 % 2 ≡ 1
 
 byte5 : (r p f : ℕ) → r < 4 → p < 4 → f < 2 → Byte5 r p f (64 * r + 16 * p + 2 * f + 1)
 byte5 r p f hr hp hf =
-    record { reserved = omega arith; scrambling = omega arith; addressed = omega arith; flag = omega arith; current = omega arith }
+    record { reserved = omega arith; scrambling = omega arith; addressed = omega arith; llcSnap = omega arith; current = omega arith }
 
 byte-5 : (r p : ℕ) (t : Bool) → r < 4 → p < 4 → Byte5 r p (pick t 1 0) (64 * r + 16 * p + pick t 2 0 + 1)
 unfolding pick
@@ -61,7 +61,7 @@ module _ (v : Values) where
   abbrev front : List ℕ
   front =
       0x3E ∷ (128 + 16 * v .reserved1 + bits 11 8 (length (v .payload) + 13)) ∷ bits 7 0 (length (v .payload) + 13)
-      ∷ v .address .mac6 ∷ v .address .mac5 ∷ (64 * v .reserved5 + 16 * v .scrambling + pick (v .flag) 2 0 + 1)
+      ∷ v .address .mac6 ∷ v .address .mac5 ∷ (64 * v .reserved5 + 16 * v .scrambling + pick (v .llcSnap) 2 0 + 1)
       ∷ v .number ∷ v .last ∷ v .address .mac4 ∷ v .address .mac3 ∷ v .address .mac2 ∷ v .address .mac1 ∷ v .payload
 
   size : length (table3 v) ≡ length (v .payload) + 16
@@ -91,9 +91,9 @@ module _ (v : Values) where
     unfolding table3 sealed
     bits-1 = let n : ℕ = bits 11 8 (length (v .payload) + 13) in let h : n < 16 = omega arith in omega (arith, l .reserved1)
 
-    pub b5 : Byte5 (v .reserved5) (v .scrambling) (pick (v .flag) 1 0) (byteAt (table3 v) 5)
+    pub b5 : Byte5 (v .reserved5) (v .scrambling) (pick (v .llcSnap) 1 0) (byteAt (table3 v) 5)
     unfolding table3 sealed
-    b5 = byte-5 (v .reserved5) (v .scrambling) (v .flag) (l .reserved5) (l .scrambling)
+    b5 = byte-5 (v .reserved5) (v .scrambling) (v .llcSnap) (l .reserved5) (l .scrambling)
 
     long : sectionLength (table3 v) ≡ length (v .payload) + 13
     unfolding sectionLength numberAt table3 sealed
@@ -148,40 +148,40 @@ module _ (v : Values) where
     unfolding payloadScramblingControl
     clear-back = b5 .scrambling
 
-    pub flagged-back : llcSnapFlag (table3 v) ≡ v .flag
+    pub flagged-back : llcSnapFlag (table3 v) ≡ v .llcSnap
     unfolding llcSnapFlag
-    flagged-back = rw (b5 .flag) (flag-back (v .flag))
+    flagged-back = rw (b5 .llcSnap) (flag-back (v .llcSnap))
 
 -- ---- what a sender writes: nothing scrambled, and ones in the reserved bits
 abbrev pub sent : Address → Bool → ℕ → ℕ → List ℕ → Values
-sent a flag number last p =
-    record { address = a; scrambling = 0; flag = flag; number = number; last = last; payload = p; reserved1 = 3; reserved5 = 3 }
+sent a llcSnap number last p =
+    record { address = a; scrambling = 0; llcSnap = llcSnap; number = number; last = last; payload = p; reserved1 = 3; reserved5 = 3 }
 
-pub sent-is : (a : Address) (flag : Bool) (number last : ℕ) (p : List ℕ) → sectionOf a flag number last p ≡ table3 (sent a flag number last p)
+pub sent-is : (a : Address) (llcSnap : Bool) (number last : ℕ) (p : List ℕ) → sectionOf a llcSnap number last p ≡ table3 (sent a llcSnap number last p)
 unfolding sectionOf header table3 pick
-sent-is a flag number last p = elim flag [ true ↦ refl | false ↦ refl ]
+sent-is a llcSnap number last p = elim llcSnap [ true ↦ refl | false ↦ refl ]
 
-pub sent-limits : (a : Address) (flag : Bool) (number last : ℕ) (p : List ℕ) → number ≤ last → length p ≤ 4080 → Limits (sent a flag number last p)
-sent-limits a flag number last p h k =
+pub sent-limits : (a : Address) (llcSnap : Bool) (number last : ℕ) (p : List ℕ) → number ≤ last → length p ≤ 4080 → Limits (sent a llcSnap number last p)
+sent-limits a llcSnap number last p h k =
     record { scrambling = omega arith; reserved1 = omega arith; reserved5 = omega arith; order = h; size = k }
 
 -- the section with these values is sound, is not scrambled, and gives each of them back
-pub record Written (a : Address) (flag : Bool) (number last : ℕ) (p : List ℕ) : Type 0 where
-  pub sound : check (sectionOf a flag number last p) ≡ 0
-  pub size : length (sectionOf a flag number last p) ≡ length p + 16
-  pub addressed : address (sectionOf a flag number last p) ≡ a
-  pub clear : payloadScramblingControl (sectionOf a flag number last p) ≡ 0
-  pub flagged : llcSnapFlag (sectionOf a flag number last p) ≡ flag
-  pub numbered : sectionNumber (sectionOf a flag number last p) ≡ number
-  pub ending : lastSectionNumber (sectionOf a flag number last p) ≡ last
-  pub carried : payload (sectionOf a flag number last p) ≡ p
+pub record Written (a : Address) (llcSnap : Bool) (number last : ℕ) (p : List ℕ) : Type 0 where
+  pub sound : check (sectionOf a llcSnap number last p) ≡ 0
+  pub size : length (sectionOf a llcSnap number last p) ≡ length p + 16
+  pub addressed : address (sectionOf a llcSnap number last p) ≡ a
+  pub clear : payloadScramblingControl (sectionOf a llcSnap number last p) ≡ 0
+  pub flagged : llcSnapFlag (sectionOf a llcSnap number last p) ≡ llcSnap
+  pub numbered : sectionNumber (sectionOf a llcSnap number last p) ≡ number
+  pub ending : lastSectionNumber (sectionOf a llcSnap number last p) ≡ last
+  pub carried : payload (sectionOf a llcSnap number last p) ≡ p
 
-pub written-is-read : (a : Address) (flag : Bool) (number last : ℕ) (p : List ℕ) → number ≤ last → length p ≤ 4080
-    → Written a flag number last p
-written-is-read a flag number last p h k =
-    let v : Values = sent a flag number last p in
-    let l : Limits v = sent-limits a flag number last p h k in
-    let e : sectionOf a flag number last p ≡ table3 v = sent-is a flag number last p in
+pub written-is-read : (a : Address) (llcSnap : Bool) (number last : ℕ) (p : List ℕ) → number ≤ last → length p ≤ 4080
+    → Written a llcSnap number last p
+written-is-read a llcSnap number last p h k =
+    let v : Values = sent a llcSnap number last p in
+    let l : Limits v = sent-limits a llcSnap number last p h k in
+    let e : sectionOf a llcSnap number last p ≡ table3 v = sent-is a llcSnap number last p in
     record {
       sound = ap check e ∙ written-sound v l;
       size = ap length e ∙ size v;

@@ -28,15 +28,15 @@ abbrev pub storedAt : ℕ → List ℕ → List ℕ → List ℕ
 storedAt f p b = take f b ++ (p ++ drop (f + length p) b)
 
 -- the run behind this section, with f bytes filled: the next number, the last number and the LLC_SNAP_flag
-abbrev pub runBehind : List ℕ → ℕ → State
-runBehind s f = Open (byteAt s 6 + 1) f (record { last = byteAt s 7; flag = eqb (bit 1 (byteAt s 5)) 1 })
+abbrev pub runAfter : List ℕ → ℕ → State
+runAfter s f = Open (byteAt s 6 + 1) f (record { last = byteAt s 7; «llc_snap» = eqb (bit 1 (byteAt s 5)) 1 })
 
 -- with the number n of the answer to s, given the state σ and the buffer b: the unit length, the state τ and the buffer d
 pub record ReceiverAfter (σ : State) (s b : List ℕ) (n unit : ℕ) (τ : State) (d : List ℕ) : Type 0 where
   pub refused : n ≢ 2 → n ≢ 1 → n ≢ 0 → (unit ≡ 0) × (τ ≡ Idle) × (d ≡ b)
   pub passed : n ≡ 2 → (unit ≡ 0) × (τ ≡ σ) × (d ≡ b)
   pub kept : n ≡ 1 → let f : ℕ = filledBefore σ (byteAt s 6) in
-      (unit ≡ 0) × (τ ≡ runBehind s (f + length (stored s))) × (d ≡ storedAt f (stored s) b)
+      (unit ≡ 0) × (τ ≡ runAfter s (f + length (stored s))) × (d ≡ storedAt f (stored s) b)
   pub delivered : n ≡ 0 → let f : ℕ = filledBefore σ (byteAt s 6) in
       (unit ≡ f + length (stored s)) × (τ ≡ Idle) × (d ≡ storedAt f (stored s) b)
 
@@ -57,18 +57,18 @@ ReceiverNames = (c : Settings) (σ : State) (s b : List ℕ) → NamedByNumber (
 
 -- ---- the sender
 -- sections stand from the start of the output, as many bytes as the length says, and behind them it is as it was
-pub record Written (c : Settings) (flag : Bool) (size : ℕ) (u out : List ℕ) (total : ℕ) (output : List ℕ) : Type 0 where
+pub record Written (c : Settings) (llcSnap : Bool) (size : ℕ) (u out : List ℕ) (total : ℕ) (output : List ℕ) : Type 0 where
   pub bytes : List ℕ
-  pub sections : Sections c flag size u bytes
+  pub sections : Sections c llcSnap size u bytes
   pub long : total ≡ length bytes
   pub is : output ≡ bytes ++ drop (length bytes) out
 
 -- with the number n, given the output `out`: the total length and the output after it
-pub record SenderAfter (c : Settings) (flag : Bool) (size : ℕ) (u out : List ℕ) (n total : ℕ) (output : List ℕ) : Type 0 where
+pub record SenderAfter (c : Settings) (llcSnap : Bool) (size : ℕ) (u out : List ℕ) (n total : ℕ) (output : List ℕ) : Type 0 where
   pub refused : n ≢ 0 → (total ≡ 0) × (output ≡ out)
-  pub sent : n ≡ 0 → Written c flag size u out total output
+  pub sent : n ≡ 0 → Written c llcSnap size u out total output
 
 abbrev pub SenderGives : Type 0
 SenderGives =
-    (c : Settings) (flag : Bool) (size : ℕ) (u out : List ℕ) → let o : SendOutcome = sentOf c flag size u out in
-    SenderAfter c flag size u out (sendingNumber (o .sending)) (sendingLength (o .sending)) (o .output)
+    (c : Settings) (llcSnap : Bool) (size : ℕ) (u out : List ℕ) → let o : SendOutcome = sentOf c llcSnap size u out in
+    SenderAfter c llcSnap size u out (sendingNumber (o .sending)) (sendingLength (o .sending)) (o .output)

@@ -20,10 +20,10 @@ use Rattle.rules.specs.Step.{stepOf}
 -- ---- what is sent
 -- section i of so many, by the values that table 3 leaves open: reserved bits are ones, nothing is scrambled, and each but the last
 -- carries exactly the piece size
-pub record SectionSent (c : Settings) (flag : Bool) (size count i : ℕ) (v : Values) : Type 0 where
+pub record SectionSent (c : Settings) (llcSnap : Bool) (size count i : ℕ) (v : Values) : Type 0 where
   pub address : v .address ≡ c .address
   pub clear : v .scrambling ≡ 0
-  pub flagged : v .flag ≡ flag
+  pub flagged : v .llcSnap ≡ llcSnap
   pub numbered : v .number ≡ i
   pub ending : v .last + 1 ≡ count
   pub reserved1 : v .reserved1 ≡ 3
@@ -31,10 +31,10 @@ pub record SectionSent (c : Settings) (flag : Bool) (size count i : ℕ) (v : Va
   pub full : i + 1 < count → length (v .payload) ≡ size
 
 -- the bytes are the sections of the unit, back to back: as many as it is cut into, and their payloads joined are the unit
-pub record Sections (c : Settings) (flag : Bool) (size : ℕ) (u bytes : List ℕ) : Type 0 where
+pub record Sections (c : Settings) (llcSnap : Bool) (size : ℕ) (u bytes : List ℕ) : Type 0 where
   pub values : List Values
   pub cut : CutInto size u (length values)
-  pub each : (front back : List Values) (v : Values) → values ≡ front ++ (v ∷ back) → SectionSent c flag size (length values) (length front) v
+  pub each : (front back : List Values) (v : Values) → values ≡ front ++ (v ∷ back) → SectionSent c llcSnap size (length values) (length front) v
   pub unit : joined values ≡ u
   pub is : bytes ≡ flatten (map table3 values)
 
@@ -53,13 +53,13 @@ pub record Arrives (c : Settings) (b : List ℕ) (xs : List (List ℕ)) (u : Lis
   pub unit : take (length u) (after c (fresh b) (map section xs) .buffer) ≡ u
 
 -- these bytes are the sections of the unit; cut as the listing cuts, they are these one by one; and they carry the unit to any buffer with room
-pub record Demand2 (c : Settings) (flag : Bool) (size : ℕ) (u bytes : List ℕ) : Type 0 where
-  pub sections : Sections c flag size u bytes
+pub record Demand2 (c : Settings) (llcSnap : Bool) (size : ℕ) (u bytes : List ℕ) : Type 0 where
+  pub sections : Sections c llcSnap size u bytes
   pub offered : offers bytes ≡ map table3 (sections .values)
   pub arrives : (b : List ℕ) → length u ≤ length b → Arrives c b (map table3 (sections .values)) u
 
 -- the bytes that the sender gives do, wherever it accepts: good settings, either flag, any unit, any piece size from 1 to 4,080
 abbrev pub RoundTrip : Type 0
 RoundTrip =
-    (c : Settings) (flag : Bool) (size : ℕ) (u out : List ℕ) (n : ℕ) → sentOf c flag size u out .sending ≡ Sent n
-    → Demand2 c flag size u (take n (sentOf c flag size u out .output))
+    (c : Settings) (llcSnap : Bool) (size : ℕ) (u out : List ℕ) (n : ℕ) → sentOf c llcSnap size u out .sending ≡ Sent n
+    → Demand2 c llcSnap size u (take n (sentOf c llcSnap size u out .output))

@@ -42,11 +42,11 @@ pub record Receivable (c : Settings) (v : Values) : Type 0 where
   pub within : v .last + 1 ≤ c .limit
 
 -- section i of a run with this last number and this flag
-pub record InRun (c : Settings) (last : ℕ) (flag : Bool) (i : ℕ) (v : Values) : Type 0 where
+pub record InRun (c : Settings) (last : ℕ) (llcSnap : Bool) (i : ℕ) (v : Values) : Type 0 where
   pub receivable : Receivable c v
   pub numbered : v .number ≡ i
   pub ending : v .last ≡ last
-  pub flagged : v .flag ≡ flag
+  pub flagged : v .llcSnap ≡ llcSnap
 
 -- the payloads, joined: all of their bytes, since no stuffing is told apart
 unfoldable pub joined : List Values → List ℕ
@@ -58,8 +58,8 @@ joined (v ∷ r) = v .payload ++ joined r
 pub record WholeRun (c : Settings) (b : List ℕ) (vs : List Values) : Type 0 where
   pub good : Good c
   pub last : ℕ
-  pub flag : Bool
-  pub each : (front back : List Values) (v : Values) → vs ≡ front ++ (v ∷ back) → InRun c last flag (length front) v
+  pub llcSnap : Bool
+  pub each : (front back : List Values) (v : Values) → vs ≡ front ++ (v ∷ back) → InRun c last llcSnap (length front) v
   pub whole : length vs ≡ last + 1
   pub unit : length (joined vs) ≤ 65535
   pub room : length (joined vs) ≤ length b

@@ -71,7 +71,7 @@ SameAddress c s = LastEqual (c .range) (addressBytes (c .address)) (printed s)
 -- the number is e, the last number L, the LLC_SNAP_flag the run's
 unfoldable pub GoesOn : State → List ℕ → Type 0
 GoesOn Idle s = ⊥
-GoesOn (Open e f κ) s = (byteAt s 6 ≡ e) × (byteAt s 7 ≡ κ .last) × (bit 1 (byteAt s 5) ≡ pick (κ .flag) 1 0)
+GoesOn (Open e f κ) s = (byteAt s 6 ≡ e) × (byteAt s 7 ≡ κ .last) × (bit 1 (byteAt s 5) ≡ pick (κ .«llc_snap») 1 0)
 
 -- f, and 0 for number 0
 unfoldable pub filledBefore : State → ℕ → ℕ
@@ -117,11 +117,11 @@ senderRows c size u out =
 
 abbrev pub SenderMeans : Type 0
 SenderMeans =
-    (c : Settings) (flag : Bool) (size : ℕ) (u out : List ℕ) (n : ℕ)
-    → (sendingNumber (sentOf c flag size u out .sending) ≡ n) ↔ FirstThat n (senderRows c size u out)
+    (c : Settings) (llcSnap : Bool) (size : ℕ) (u out : List ℕ) (n : ℕ)
+    → (sendingNumber (sentOf c llcSnap size u out .sending) ≡ n) ↔ FirstThat n (senderRows c size u out)
 
 -- where no piece size is given it is 4,080
 abbrev pub DefaultMeans : Type 0
 DefaultMeans =
-    (c : Settings) (flag : Bool) (u out : List ℕ) (n : ℕ)
-    → (sendingNumber (sentOf c flag defaultPiece u out .sending) ≡ n) ↔ FirstThat n (senderRows c 4080 u out)
+    (c : Settings) (llcSnap : Bool) (u out : List ℕ) (n : ℕ)
+    → (sendingNumber (sentOf c llcSnap defaultPiece u out .sending) ≡ n) ↔ FirstThat n (senderRows c 4080 u out)

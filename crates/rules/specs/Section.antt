@@ -79,13 +79,13 @@ crcField s = numberAt 4 s (crcOffset s)
 -- the twelve bytes that a sender writes: reserved bits and current_next_indicator are ones, private_indicator and both
 -- scrambling controls zeros
 unfoldable pub header : Address → Bool → ℕ → ℕ → ℕ → List ℕ
-header a flag number last sectionLength =
+header a llcSnap number last sectionLength =
     0x3E
     ∷ (0xB0 + bits 11 8 sectionLength)
     ∷ bits 7 0 sectionLength
     ∷ a .mac6
     ∷ a .mac5
-    ∷ pick flag 0xC3 0xC1
+    ∷ pick llcSnap 0xC3 0xC1
     ∷ number
     ∷ last
     ∷ a .mac4
@@ -100,4 +100,4 @@ sealed s = s ++ bytesOf 4 (crc32 s)
 
 -- a whole section: header, payload, CRC_32
 unfoldable pub sectionOf : Address → Bool → ℕ → ℕ → List ℕ → List ℕ
-sectionOf a flag number last p = sealed (header a flag number last (length p + 13) ++ p)
+sectionOf a llcSnap number last p = sealed (header a llcSnap number last (length p + 13) ++ p)

@@ -35,27 +35,27 @@ piece n u i = take n (drop (i * n) u)
 
 -- section i: header, piece, CRC_32
 unfoldable pub sectionAt : Settings → Bool → ℕ → List ℕ → ℕ → List ℕ
-sectionAt c flag n u i = sectionOf (c .address) flag i (sectionCount n u - 1) (piece n u i)
+sectionAt c llcSnap n u i = sectionOf (c .address) llcSnap i (sectionCount n u - 1) (piece n u i)
 
 -- the sections before number k
 unfoldable pub sectionsTo : Settings → Bool → ℕ → List ℕ → ℕ → List (List ℕ)
-sectionsTo c flag n u zero = []
-sectionsTo c flag n u (suc k) = sectionsTo c flag n u k ++ (sectionAt c flag n u k ∷ [])
+sectionsTo c llcSnap n u zero = []
+sectionsTo c llcSnap n u (suc k) = sectionsTo c llcSnap n u k ++ (sectionAt c llcSnap n u k ∷ [])
 
 -- all sections of the unit
 unfoldable pub sections : Settings → Bool → ℕ → List ℕ → List (List ℕ)
-sections c flag n u = sectionsTo c flag n u (sectionCount n u)
+sections c llcSnap n u = sectionsTo c llcSnap n u (sectionCount n u)
 
 -- ---- the refusals, in the paper's order
 -- 10: range not 1 to 6, or section limit not 1 to 255; 50: piece size not 1 to 4,080; 51: unit over 65,535; 52: more sections than the
 -- limit; 53: output buffer shorter than the sections
 unfoldable pub sendLines : Settings → Bool → ℕ → List ℕ → List ℕ → List Line
-sendLines c flag n u out =
+sendLines c llcSnap n u out =
     line 10 (not (goodSettings c))
     ∷ line 50 (not (both (leb 1 n) (leb n 4080)))
     ∷ line 51 (ltb 65535 (length u))
     ∷ line 52 (ltb (c .limit) (sectionCount n u))
-    ∷ line 53 (ltb (length out) (length (flatten (sections c flag n u))))
+    ∷ line 53 (ltb (length out) (length (flatten (sections c llcSnap n u))))
     ∷ []
 
 -- ---- the outcome
@@ -65,15 +65,15 @@ pub record SendOutcome : Type 0 where
 
 -- the sections from the start of the output, what is behind them as it was
 unfoldable pub written : Settings → Bool → ℕ → List ℕ → List ℕ → SendOutcome
-written c flag n u out =
-    let bytes : List ℕ = flatten (sections c flag n u) in
+written c llcSnap n u out =
+    let bytes : List ℕ = flatten (sections c llcSnap n u) in
     record { sending = Sent (length bytes); output = over bytes out }
 
 -- a refusal writes nothing
 unfoldable pub sentOf : Settings → Bool → ℕ → List ℕ → List ℕ → SendOutcome
-sentOf c flag n u out =
-    let refusal : ℕ = firstOf (sendLines c flag n u out) in
-    pick (eqb refusal 0) (written c flag n u out) (record { sending = Unsent refusal; output = out })
+sentOf c llcSnap n u out =
+    let refusal : ℕ = firstOf (sendLines c llcSnap n u out) in
+    pick (eqb refusal 0) (written c llcSnap n u out) (record { sending = Unsent refusal; output = out })
 
 -- the piece size where a caller gives none
 abbrev pub defaultPiece : ℕ

@@ -15,7 +15,7 @@ use Rattle.rules.specs.Section.{sealed}
 pub record Values : Type 0 where
   pub address : Address
   pub scrambling : ℕ
-  pub flag : Bool
+  pub llcSnap : Bool
   pub number : ℕ
   pub last : ℕ
   pub payload : List ℕ
@@ -35,7 +35,7 @@ table3 v =
     ∷ bits 7 0 (following v)
     ∷ v .address .mac6
     ∷ v .address .mac5
-    ∷ (2 ^ 6 * v .reserved5 + 2 ^ 4 * v .scrambling + pick (v .flag) (2 ^ 1) 0 + 1)
+    ∷ (2 ^ 6 * v .reserved5 + 2 ^ 4 * v .scrambling + pick (v .llcSnap) (2 ^ 1) 0 + 1)
     ∷ v .number
     ∷ v .last
     ∷ v .address .mac4

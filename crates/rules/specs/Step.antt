@@ -53,10 +53,10 @@ setupLines c σ = line 10 (not (goodSettings c)) ∷ line 11 (not (goodState σ)
 -- ---- runs
 -- what a section says of its run
 unfoldable pub keyOf : List ℕ → Key
-keyOf s = record { last = lastSectionNumber s; flag = llcSnapFlag s }
+keyOf s = record { last = lastSectionNumber s; «llc_snap» = llcSnapFlag s }
 
 unfoldable pub sameKey : Key → Key → Bool
-sameKey a b = both (eqb (a .last) (b .last)) (Bool·beq (a .flag) (b .flag))
+sameKey a b = both (eqb (a .last) (b .last)) (Bool·beq (a .«llc_snap») (b .«llc_snap»))
 
 -- the section goes on with an open run: its number is e, and it has the run's last number and flag
 unfoldable pub continues : ℕ → Key → List ℕ → Bool

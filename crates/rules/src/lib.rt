@@ -28,7 +28,7 @@ pub struct Settings {
 // What the sections of one run agree on: last_section_number and LLC_SNAP_flag.
 pub struct Key {
     pub last: usize,
-    pub flag: bool,
+    pub llc_snap: bool,
 }
 
 // No run, or an open one: the next number, the bytes that are filled, and what its sections agree on.

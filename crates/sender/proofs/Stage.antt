@@ -34,23 +34,23 @@ drop-min n s = go (decLe n (length s))
         let l : length s ≤ n = omega arith in
         rw (m, drop-length s) (sym (drop-of-length-le s l))
 
-module _ (c : Settings) (flag : Bool) (n : ℕ) (u before : List ℕ) where
+module _ (c : Settings) (llcSnap : Bool) (n : ℕ) (u before : List ℕ) where
   pub record Stage (count last i : ℕ) (rest : List ℕ) (at : ℕ) (out : List ℕ) : Type 0 where
-    pub accepted : Accepted c flag n u before
+    pub accepted : Accepted c llcSnap n u before
     pub counted : count ≡ sectionCount n u
     pub ending : last ≡ count - 1
     pub within : i ≤ count
     pub same : length out ≡ length before
     pub left : rest ≡ drop (i * n) u
-    pub puts : Puts before 0 (flatten (sectionsTo c flag n u i)) at out
+    pub puts : Puts before 0 (flatten (sectionsTo c llcSnap n u i)) at out
 
   module _ {count last i : ℕ} {rest : List ℕ} {at : ℕ} {out : List ℕ} (s : Stage count last i rest at out) where
     -- what is written and what is left
     placed : at + length rest ≡ length u + 16 * i
-    placed = rw (s .left) (omega (arith, s .puts .end, bytes-to c flag n u i))
+    placed = rw (s .left) (omega (arith, s .puts .end, bytes-to c llcSnap n u i))
 
     total : length u + 16 * count ≤ length before
-    total = rw (s .counted) (omega (arith, sections-bytes c flag n u (s .accepted .some), s .accepted .room))
+    total = rw (s .counted) (omega (arith, sections-bytes c llcSnap n u (s .accepted .some), s .accepted .room))
 
     -- the next section fits
     pub stage-room : (m : ℕ) → i < count → m ≡ min n (length rest)
@@ -60,14 +60,14 @@ module _ (c : Settings) (flag : Bool) (n : ℕ) (u before : List ℕ) where
         (omega (arith, s .accepted .most), omega (arith, placed, total, s .same))
 
     pub stage-next : {at′ : ℕ} {out′ : List ℕ} (m : ℕ) → i < count → m ≡ min n (length rest)
-        → Puts out at (sectionOf (c .address) flag i last (take m rest)) at′ out′
+        → Puts out at (sectionOf (c .address) llcSnap i last (take m rest)) at′ out′
         → Stage count last (i + 1) (take (length rest - m) (drop m rest)) at′ out′
     unfolding sectionAt piece
     stage-next {at′} {out′} m h e p =
-        let sec : List ℕ = sectionOf (c .address) flag i last (take m rest) in
+        let sec : List ℕ = sectionOf (c .address) llcSnap i last (take m rest) in
         let cut : take m rest ≡ take n (drop (i * n) u) =
         ap (λ (k : ℕ). take k rest) e ∙ take-min n rest ∙ ap (take n) (s .left) in
-        let is : sec ≡ sectionAt c flag n u i = rw (cut, s .ending, s .counted) in
+        let is : sec ≡ sectionAt c llcSnap n u i = rw (cut, s .ending, s .counted) in
         let behind : length (drop m rest) ≤ length rest - m = omega (arith, length-drop m rest) in
         let next : i * n + n ≡ (i + 1) * n = rw (add-one i) (sym (suc-mul i n)) in
         record {
@@ -80,11 +80,11 @@ module _ (c : Settings) (flag : Bool) (n : ℕ) (u before : List ℕ) where
               take-all (length rest - m) (drop m rest) behind
               ∙ ap (λ (k : ℕ). drop k rest) e ∙ drop-min n rest ∙ ap (drop n) (s .left)
               ∙ drop-drop n (i * n) u ∙ ap (λ (k : ℕ). drop k u) next;
-          puts = rw (add-one i, bytes-more c flag n u i, ← is) (puts-then (s .puts) p);
+          puts = rw (add-one i, bytes-more c llcSnap n u i, ← is) (puts-then (s .puts) p);
         }
 
   -- nothing is written yet
-  pub stage-start : {count : ℕ} → Accepted c flag n u before → count ≡ sectionCount n u → Stage count (count - 1) 0 u 0 before
+  pub stage-start : {count : ℕ} → Accepted c llcSnap n u before → count ≡ sectionCount n u → Stage count (count - 1) 0 u 0 before
   unfolding sectionsTo flatten
   stage-start a e =
       record {
@@ -99,6 +99,6 @@ module _ (c : Settings) (flag : Bool) (n : ℕ) (u before : List ℕ) where
 
   -- all sections are written
   pub stage-end : {count last i : ℕ} {rest : List ℕ} {at : ℕ} {out : List ℕ} → Stage count last i rest at out → count ≤ i
-      → Puts before 0 (flatten (sections c flag n u)) at out
+      → Puts before 0 (flatten (sections c llcSnap n u)) at out
   unfolding sections
   stage-end {count} {last} {i} s h = let is : i ≡ sectionCount n u = omega (arith, s .counted, s .within) in rw is at (s .puts)

@@ -12,5 +12,5 @@ use Rattle.sender.specs.declared.Plan.the-variants.{Refused, Cut}
 
 -- a refusal by the first line that applies, or none, and the number of the sections; the flag decides nothing
 abbrev pub Planned : Settings → ℕ → List ℕ → List ℕ → Plan → Type 0
-Planned c n u out (Refused r) = (r ≢ 0) × ((flag : Bool) → r ≡ firstOf (sendLines c flag n u out))
-Planned c n u out (Cut count) = (count ≡ sectionCount n u) × ((flag : Bool) → firstOf (sendLines c flag n u out) ≡ 0)
+Planned c n u out (Refused r) = (r ≢ 0) × ((llcSnap : Bool) → r ≡ firstOf (sendLines c llcSnap n u out))
+Planned c n u out (Cut count) = (count ≡ sectionCount n u) × ((llcSnap : Bool) → firstOf (sendLines c llcSnap n u out) ≡ 0)

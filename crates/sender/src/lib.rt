@@ -66,7 +66,7 @@ fn decide(settings: Settings, size: usize, unit: &[u8], out: &[u8]) -> Plan
 // Writes one section at `at`, header, piece and CRC_32, and gives where it ends.
 fn put_section(
     a: Address,
-    flag: bool,
+    llc_snap: bool,
     number: u8,
     last: u8,
     piece: &[u8],
@@ -74,9 +74,9 @@ fn put_section(
     out: &mut [u8],
 ) -> usize
     requires { ⌜ (length (now piece) ≤ 4080) × (at + (length (now piece) + 16) ≤ length (now out)) ⌝ }
-    ensures { λ r. ⌜ Puts (now (out .entry)) at (sectionOf a flag number last (now (piece .entry))) r (now (out .exit)) ⌝ }
+    ensures { λ r. ⌜ Puts (now (out .entry)) at (sectionOf a «llc_snap» number last (now (piece .entry))) r (now (out .exit)) ⌝ }
 {
-    let header = section_header::header(a, flag, number, last, (piece.len() + 13) as u16);
+    let header = section_header::header(a, llc_snap, number, last, (piece.len() + 13) as u16);
     let body = put(&header, at, out);
     let end = put(piece, body, out);
     let sum = wire::u32_bytes(crc::crc_32(&out[at..end]));
@@ -86,15 +86,15 @@ fn put_section(
 // Writes the sections of a unit that is not refused, from the start of the output, and gives where they end.
 fn put_sections(
     settings: Settings,
-    flag: bool,
+    llc_snap: bool,
     size: usize,
     count: usize,
     unit: &[u8],
     out: &mut [u8],
 ) -> usize
-    requires { ⌜ firstOf (sendLines settings flag size (now unit) (now out)) ≡ 0 ⌝ }
+    requires { ⌜ firstOf (sendLines settings «llc_snap» size (now unit) (now out)) ≡ 0 ⌝ }
     requires { ⌜ count ≡ sectionCount size (now unit) ⌝ }
-    ensures { λ r. ⌜ Puts (now (out .entry)) 0 (flatten (sections settings flag size (now (unit .entry)))) r (now (out .exit)) ⌝ }
+    ensures { λ r. ⌜ Puts (now (out .entry)) 0 (flatten (sections settings «llc_snap» size (now (unit .entry)))) r (now (out .exit)) ⌝ }
 {
     let last = (count - 1) as u8;
     let mut rest = unit;
@@ -103,7 +103,7 @@ fn put_sections(
     while i < count {
         let address = settings.address;
         let n = wire::smaller(size, rest.len());
-        at = put_section(address, flag, i as u8, last, &rest[..n], at, out);
+        at = put_section(address, llc_snap, i as u8, last, &rest[..n], at, out);
         rest = &rest[n..];
         i += 1;
     }
@@ -111,20 +111,20 @@ fn put_sections(
 }
 
 // Sections of the unit from the start of the output, or a refusal that writes nothing.
-pub fn send(settings: Settings, flag: bool, size: usize, unit: &[u8], out: &mut [u8]) -> Sending
-    ensures { λ r. ⌜ Sends (sentOf settings flag size (now (unit .entry)) (now (out .entry))) r (now (out .exit)) ⌝ }
+pub fn send(settings: Settings, llc_snap: bool, size: usize, unit: &[u8], out: &mut [u8]) -> Sending
+    ensures { λ r. ⌜ Sends (sentOf settings «llc_snap» size (now (unit .entry)) (now (out .entry))) r (now (out .exit)) ⌝ }
 {
     match decide(settings, size, unit, out) {
         Plan::Refused(number) => Sending::Unsent(number),
-        Plan::Cut(count) => Sending::Sent(put_sections(settings, flag, size, count, unit, out)),
+        Plan::Cut(count) => Sending::Sent(put_sections(settings, llc_snap, size, count, unit, out)),
     }
 }
 
 // The piece size where a caller gives none.
 const DEFAULT_PIECE: usize = 4080;
 
-pub fn send_by_default(settings: Settings, flag: bool, unit: &[u8], out: &mut [u8]) -> Sending
-    ensures { λ r. ⌜ Sends (sentOf settings flag defaultPiece (now (unit .entry)) (now (out .entry))) r (now (out .exit)) ⌝ }
+pub fn send_by_default(settings: Settings, llc_snap: bool, unit: &[u8], out: &mut [u8]) -> Sending
+    ensures { λ r. ⌜ Sends (sentOf settings «llc_snap» defaultPiece (now (unit .entry)) (now (out .entry))) r (now (out .exit)) ⌝ }
 {
-    send(settings, flag, DEFAULT_PIECE, unit, out)
+    send(settings, llc_snap, DEFAULT_PIECE, unit, out)
 }

@@ -16,12 +16,12 @@ returns : tie.Need-returns
 unfolding numbersOf
 returns c = sym (ap numbersOf (c .enum-told .given .1))
 
-cast-flag : tie.Need-cast-flag
-cast-flag c = search needs
+cast-llc-snap : tie.Need-cast-llc-snap
+cast-llc-snap c = search needs
 
 returns-2 : tie.Need-returns-2
 unfolding numbersOf
 returns-2 c = rw flag-byte (sym (ap numbersOf (c .before .before .state .given .1)))
 
 pub put-spec : {M : Type 1} → statement M
-put-spec = tie.close (tie.spec enum-known-state enum-told returns cast-flag returns-2)
+put-spec = tie.close (tie.spec enum-known-state enum-told returns cast-llc-snap returns-2)

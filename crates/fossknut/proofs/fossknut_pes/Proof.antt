@@ -41,8 +41,8 @@ returns c =
       rated = flag-byte (r .rated) ∙ ap (λ (o : Reading). flagNumber (o .rated)) e;
       extension = ap (λ (o : Reading). o .extension) e;
       rate = ap (λ (o : Reading). o .rate) e;
-      start = ap (λ (o : Reading). o .start) e;
-      length = ap (λ (o : Reading). o .end - o .start) e;
+      offset = ap (λ (o : Reading). o .offset) e;
+      length = ap (λ (o : Reading). o .end - o .offset) e;
     }
 
 pub fossknut-pes-spec : {M : Type 1} → statement M

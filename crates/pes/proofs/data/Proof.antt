@@ -30,7 +30,7 @@ returns : tie.Need-returns
 returns c =
     let r = c .before .read .result in
     let s = now (c .before .before .before .args .packet) in
-    rw (← c .before .read .ensures) (record { bytes = sym (slice-is (r .start) (r .end) s); block = refl; offset = refl })
+    rw (← c .before .read .ensures) (record { bytes = sym (slice-is (r .offset) (r .end) s); block = refl; offset = refl })
 
 pub data-spec : {M : Type 1} → statement M
 data-spec = tie.close (tie.spec read-requires sub-result part-result-start part-result-end returns)

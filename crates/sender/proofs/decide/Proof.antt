@@ -19,14 +19,14 @@ use Rattle.sender.proofs.decide.Tie as tie
 
 -- what 52 and 53 decide where 10, 50 and 51 do not apply
 unfoldable counted : Settings → Bool → ℕ → List ℕ → List ℕ → ℕ
-counted k flag n u out = first (ltb (k .limit) (sectionCount n u)) 52 (first (ltb (length out) (length (flatten (sections k flag n u)))) 53 0)
+counted k llcSnap n u out = first (ltb (k .limit) (sectionCount n u)) 52 (first (ltb (length out) (length (flatten (sections k llcSnap n u)))) 53 0)
 
-past : (x : tie.Else3) (flag : Bool) {m : ℕ}
+past : (x : tie.Else3) (llcSnap : Bool) {m : ℕ}
     → let a = x .before .before .before .before .before .before .before .args in
-    m ≡ counted (a .settings) flag (a .size) (now (a .unit)) (now (a .out))
-    → m ≡ firstOf (sendLines (a .settings) flag (a .size) (now (a .unit)) (now (a .out)))
+    m ≡ counted (a .settings) llcSnap (a .size) (now (a .unit)) (now (a .out))
+    → m ≡ firstOf (sendLines (a .settings) llcSnap (a .size) (now (a .unit)) (now (a .out)))
 unfolding sendLines firstOf counted
-past x flag h =
+past x llcSnap h =
     let good = x .before .before .before in
     not-first 10 _ (was (ap not (good .before .good-settings .ensures)) (good .if1 .left))
     (not-first 50 _ (was (ap not (x .before .before .size-good .ensures)) (x .before .if2 .left))
@@ -36,19 +36,19 @@ some : (x : tie.Else3) → 1 ≤ x .before .before .before .before .before .befo
 some x = leb-true 1 _ (both-true _ _ (not-false _ (was (ap not (x .before .before .size-good .ensures)) (x .before .if2 .left))) .0)
 
 -- the test of 53 is of the sections' length
-short : (x : tie.After-section-count) (flag : Bool)
+short : (x : tie.After-section-count) (llcSnap : Bool)
     → let a = x .before .before .before .before .before .before .before .before .args in
-    length (now (a .unit)) + 16 * x .section-count .result ≡ length (flatten (sections (a .settings) flag (a .size) (now (a .unit))))
-short x flag =
+    length (now (a .unit)) + 16 * x .section-count .result ≡ length (flatten (sections (a .settings) llcSnap (a .size) (now (a .unit))))
+short x llcSnap =
     let a = x .before .before .before .before .before .before .before .before .args in
-    rw (x .section-count .ensures .is) (sym (sections-bytes (a .settings) flag (a .size) (now (a .unit)) (some (x .before))))
+    rw (x .section-count .ensures .is) (sym (sections-bytes (a .settings) llcSnap (a .size) (now (a .unit)) (some (x .before))))
 
 good-settings-requires : tie.Need-good-settings-requires
 good-settings-requires c κs = search needs
 
 returns : tie.Need-returns
 unfolding sendLines firstOf
-returns c = (λ z. omega (arith, z), λ flag. yes-first 10 _ (was (ap not (c .before .good-settings .ensures)) (c .if1 .taken)))
+returns c = (λ z. omega (arith, z), λ llcSnap. yes-first 10 _ (was (ap not (c .before .good-settings .ensures)) (c .if1 .taken)))
 
 size-good-requires : tie.Need-size-good-requires
 size-good-requires c κs = search needs
@@ -57,7 +57,7 @@ returns-2 : tie.Need-returns-2
 unfolding sendLines firstOf
 returns-2 c = (
   λ z. omega (arith, z),
-  λ flag.
+  λ llcSnap.
       not-first 10 _ (was (ap not (c .before .before .before .good-settings .ensures)) (c .before .before .if1 .left))
       (yes-first 50 _ (was (ap not (c .before .size-good .ensures)) (c .if2 .taken))),
 )
@@ -67,7 +67,7 @@ unfolding sendLines firstOf
 returns-3 c =
     let s = c .before .before in (
       λ z. omega (arith, z),
-      λ flag.
+      λ llcSnap.
           not-first 10 _ (was (ap not (s .before .before .good-settings .ensures)) (s .before .if1 .left))
           (not-first 50 _ (was (ap not (s .size-good .ensures)) (c .before .if2 .left)) (yes-first 51 _ (lt-ltb 65535 _ (c .if3 .taken)))),
     )
@@ -83,7 +83,7 @@ returns-4 c =
     let n = c .before .before in
     let a = n .before .before .before .before .before .before .before .before .args in
     let over : a .settings .limit < sectionCount (a .size) (now (a .unit)) = omega (arith, c .if4 .taken, n .section-count .ensures .is) in
-    (λ z. omega (arith, z), λ flag. past (n .before) flag (yes-first 52 _ (lt-ltb _ _ over)))
+    (λ z. omega (arith, z), λ llcSnap. past (n .before) llcSnap (yes-first 52 _ (lt-ltb _ _ over)))
 
 mul-if5 : tie.Need-mul-if5
 mul-if5 c = search needs
@@ -98,9 +98,9 @@ returns-5 c =
     let a = n .before .before .before .before .before .before .before .before .args in
     let within : sectionCount (a .size) (now (a .unit)) ≤ a .settings .limit = omega (arith, c .before .if4 .left, n .section-count .ensures .is) in (
       λ z. omega (arith, z),
-      λ flag.
-          past (n .before) flag (not-first 52 _ (le-ltb _ _ within)
-          (yes-first 53 _ (lt-ltb _ _ (rw (short n flag) at (c .if5 .taken))))),
+      λ llcSnap.
+          past (n .before) llcSnap (not-first 52 _ (le-ltb _ _ within)
+          (yes-first 53 _ (lt-ltb _ _ (rw (short n llcSnap) at (c .if5 .taken))))),
     )
 
 returns-6 : tie.Need-returns-6
@@ -110,9 +110,9 @@ returns-6 c =
     let a = n .before .before .before .before .before .before .before .before .args in
     let within : sectionCount (a .size) (now (a .unit)) ≤ a .settings .limit = omega (arith, c .before .if4 .left, n .section-count .ensures .is) in (
       n .section-count .ensures .is,
-      λ flag. sym
-          (past (n .before) flag (not-first 52 _ (le-ltb _ _ within)
-          (not-first 53 _ (le-ltb _ _ (rw (short n flag) at (c .if5 .left))) refl))),
+      λ llcSnap. sym
+          (past (n .before) llcSnap (not-first 52 _ (le-ltb _ _ within)
+          (not-first 53 _ (le-ltb _ _ (rw (short n llcSnap) at (c .if5 .left))) refl))),
     )
 
 pub decide-spec : {M : Type 1} → statement M

@@ -11,19 +11,19 @@ use Rattle.sender.proofs.put_sections.Statement.{statement}
 use Rattle.sender.proofs.put_sections.Tie as tie
 
 abbrev Inv-loop : tie.InvT-loop
-Inv-loop settings flag size count unit out₀ last rest₀ at₀ i₀ out rest at i =
-    Stage settings flag size unit out₀ count last i rest at out
+Inv-loop settings llcSnap size count unit out₀ last rest₀ at₀ i₀ out rest at i =
+    Stage settings llcSnap size unit out₀ count last i rest at out
 
 abbrev μ-loop : tie.MeasureT-loop
-μ-loop settings flag size count unit out₀ last rest₀ at₀ i₀ out rest at i = count - i
+μ-loop settings llcSnap size count unit out₀ last rest₀ at₀ i₀ out rest at i = count - i
 
 -- the unit is not refused
 taken : (x : tie.After-slice-known Inv-loop μ-loop)
-    → let a = x .before .before .args in Accepted (a .settings) (a .flag) (a .size) (now (a .unit)) (now (a .out))
+    → let a = x .before .before .args in Accepted (a .settings) (a .llc-snap) (a .size) (now (a .unit)) (now (a .out))
 taken x =
     let start = x .before .before in
     let a = start .args in
-    accepted (a .settings) (a .flag) (a .size) (now (a .unit)) (now (a .out)) (start .pre .0)
+    accepted (a .settings) (a .llc-snap) (a .size) (now (a .unit)) (now (a .out)) (start .pre .0)
 
 sub-last : tie.Need-sub-last Inv-loop μ-loop
 sub-last c =
@@ -36,7 +36,7 @@ cast-last c = omega (arith, c .before .before .pre .1, count-byte (taken c))
 loop-holds : tie.Need-loop-holds Inv-loop μ-loop
 loop-holds c =
     let a = c .before .before .args in
-    stage-start (a .settings) (a .flag) (a .size) (now (a .unit)) (now (a .out)) (taken c) (c .before .before .pre .1)
+    stage-start (a .settings) (a .llc-snap) (a .size) (now (a .unit)) (now (a .out)) (taken c) (c .before .before .pre .1)
 
 smaller-requires : tie.Need-smaller-requires Inv-loop μ-loop
 smaller-requires c κs = search needs
@@ -53,7 +53,7 @@ put-section-requires : tie.Need-put-section-requires Inv-loop μ-loop
 put-section-requires c κs =
     let turn = c .before .before .before .before in
     let a = turn .before .before .before .before .args in
-    stage-room (a .settings) (a .flag) (a .size) (now (a .unit)) (now (a .out)) (turn .before .loop .inv) _ (turn .loop-test .taken)
+    stage-room (a .settings) (a .llc-snap) (a .size) (now (a .unit)) (now (a .out)) (turn .before .loop .inv) _ (turn .loop-test .taken)
     (c .before .before .smaller .ensures)
 
 sub-rest : tie.Need-sub-rest Inv-loop μ-loop
@@ -76,7 +76,7 @@ loop-again c =
     let put = c .before .before .before in
     let turn = put .before .before .before .before .before in
     let a = turn .before .before .before .before .args in
-    stage-next (a .settings) (a .flag) (a .size) (now (a .unit)) (now (a .out)) (turn .before .loop .inv) _ (turn .loop-test .taken)
+    stage-next (a .settings) (a .llc-snap) (a .size) (now (a .unit)) (now (a .out)) (turn .before .loop .inv) _ (turn .loop-test .taken)
     (put .before .before .before .smaller .ensures) (put .put-section .ensures)
 
 same-length : tie.Need-same-length Inv-loop μ-loop
@@ -85,7 +85,7 @@ same-length c = c .before .loop .inv .same
 returns : tie.Need-returns Inv-loop μ-loop
 returns c =
     let a = c .before .before .before .before .args in
-    stage-end (a .settings) (a .flag) (a .size) (now (a .unit)) (now (a .out)) (c .before .loop .inv) (c .loop-test .left)
+    stage-end (a .settings) (a .llc-snap) (a .size) (now (a .unit)) (now (a .out)) (c .before .loop .inv) (c .loop-test .left)
 
 pub put-sections-spec : {M : Type 1} → statement M
 put-sections-spec =
