@@ -1,4 +1,4 @@
-//! Finds the static library: in `FOSSKNUT_LIB_DIR`, else where `rt staticlib exports` leaves it.
+//! Finds the static library: in `FOSSKNUT_LIB_DIR`, else where `rt staticlib fossknut` leaves it.
 
 use std::env;
 use std::path::{Path, PathBuf};
@@ -10,10 +10,10 @@ fn main() {
         || Path::new(env!("CARGO_MANIFEST_DIR")).join("../../target/staticlib"),
         PathBuf::from,
     );
-    let library = folder.join("libexports.a");
+    let library = folder.join("libfossknut.a");
     if !library.is_file() {
         eprintln!(
-            "{} is missing: run `rt staticlib exports` at the root of the repository, \
+            "{} is missing: run `rt staticlib fossknut` at the root of the repository, \
              or set FOSSKNUT_LIB_DIR to the folder that has it",
             library.display()
         );
@@ -21,5 +21,5 @@ fn main() {
     }
     println!("cargo:rerun-if-changed={}", library.display());
     println!("cargo:rustc-link-search=native={}", folder.display());
-    println!("cargo:rustc-link-lib=static=exports");
+    println!("cargo:rustc-link-lib=static=fossknut");
 }

@@ -42,10 +42,10 @@ pub fn agree() -> Result<(), String> {
     for (name, fill) in KINDS {
         for length in LENGTHS {
             let section = section(fill, length);
-            let place = second::notification::read(OURS, &section).place;
+            let offset = second::notification::read(OURS, &section).offset;
             let found = fossknut::notification::read(OURS, &section);
-            if place == 0
-                || found.ok().flatten().map(Location::bytes) != section.get(place..place + 9)
+            if offset == 0
+                || found.ok().flatten().map(Location::bytes) != section.get(offset..offset + 9)
             {
                 return Err(format!(
                     "an INT section of {length} bytes, {name}, is read wrong"

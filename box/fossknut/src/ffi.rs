@@ -22,7 +22,7 @@ extern "C" {
         next: *mut usize,
         last: *mut usize,
         filled: *mut usize,
-        flag: *mut u8,
+        llc_snap: *mut u8,
         section: *const u8,
         section_length: usize,
         buffer: *mut u8,
@@ -34,7 +34,7 @@ extern "C" {
         next: *mut usize,
         last: *mut usize,
         filled: *mut usize,
-        flag: *mut u8,
+        llc_snap: *mut u8,
     );
     fn fossknut_send(
         mac1: u8,
@@ -45,7 +45,7 @@ extern "C" {
         mac6: u8,
         range: usize,
         limit: usize,
-        flag: u8,
+        llc_snap: u8,
         size: usize,
         unit: *const u8,
         unit_length: usize,
@@ -62,7 +62,7 @@ extern "C" {
         mac6: u8,
         range: usize,
         limit: usize,
-        flag: u8,
+        llc_snap: u8,
         unit: *const u8,
         unit_length: usize,
         out: *mut u8,
@@ -78,7 +78,7 @@ extern "C" {
         mac6: u8,
         section: *const u8,
         section_length: usize,
-        place: *mut usize,
+        offset: *mut usize,
     ) -> u8;
     fn fossknut_pes(
         packet: *const u8,
@@ -87,7 +87,7 @@ extern "C" {
         rated: *mut u8,
         extension: *mut usize,
         rate: *mut usize,
-        start: *mut usize,
+        offset: *mut usize,
         length: *mut usize,
     ) -> u8;
 }
@@ -103,9 +103,9 @@ macro_rules! with_address {
 /// What a number holds that the library has to write, whatever it answers.
 const UNWRITTEN: usize = usize::MAX;
 
-/// A receiver's state in numbers: idle where `run` is 0, the flag set where `flag` is not.
+/// A receiver's state in numbers: idle where `run` is 0, the flag set where `llc_snap` is not.
 ///
-/// Any numbers may be given. Those that the library gives back are a state's: `run` and `flag` are
+/// Any numbers may be given. Those that the library gives back are a state's: `run` and `llc_snap` are
 /// 0 or 1, and beside a `run` of 0 all are 0. So answer 2, which leaves the state as given,
 /// rewrites numbers that no state has: 7 in `run` becomes 1.
 #[derive(Clone, Copy, Debug, Default, PartialEq, Eq)]
@@ -114,7 +114,7 @@ pub(crate) struct State {
     pub(crate) next: usize,
     pub(crate) last: usize,
     pub(crate) filled: usize,
-    pub(crate) flag: u8,
+    pub(crate) llc_snap: u8,
 }
 
 pub(crate) fn crc_32(bytes: &[u8]) -> u32 {
@@ -148,7 +148,7 @@ pub(crate) fn receive(
                 &mut state.next,
                 &mut state.last,
                 &mut state.filled,
-                &mut state.flag,
+                &mut state.llc_snap,
                 section.as_ptr(),
                 section.len(),
                 buffer.as_mut_ptr(),
@@ -168,15 +168,15 @@ pub(crate) fn gap(state: &mut State) {
             &mut state.next,
             &mut state.last,
             &mut state.filled,
-            &mut state.flag,
+            &mut state.llc_snap,
         );
     }
 }
 
-/// The answer's number, and the length of the sections. `flag` is set where it is not 0.
+/// The answer's number, and the length of the sections. `llc_snap` is set where it is not 0.
 pub(crate) fn send(
     settings: &Settings,
-    flag: u8,
+    llc_snap: u8,
     size: usize,
     unit: &[u8],
     output: &mut [u8],
@@ -189,7 +189,7 @@ pub(crate) fn send(
             fossknut_send(
                 settings.range,
                 settings.limit,
-                flag,
+                llc_snap,
                 size,
                 unit.as_ptr(),
                 unit.len(),
@@ -205,7 +205,7 @@ pub(crate) fn send(
 /// [`send`] by the library's own piece size.
 pub(crate) fn send_by_default(
     settings: &Settings,
-    flag: u8,
+    llc_snap: u8,
     unit: &[u8],
     output: &mut [u8],
 ) -> (u8, usize) {
@@ -217,7 +217,7 @@ pub(crate) fn send_by_default(
             fossknut_send_by_default(
                 settings.range,
                 settings.limit,
-                flag,
+                llc_snap,
                 unit.as_ptr(),
                 unit.len(),
                 output.as_mut_ptr(),
@@ -231,26 +231,26 @@ pub(crate) fn send_by_default(
 
 /// The answer's number, and where in the section the nine bytes are.
 pub(crate) fn notification(device: [u8; 6], section: &[u8]) -> (u8, usize) {
-    let mut place = UNWRITTEN;
+    let mut offset = UNWRITTEN;
     // SAFETY: pointer and length are those of one slice, which is only read, and the other pointer
     // is that of a number; neither is kept.
     let number = unsafe {
         with_address!(
             device,
-            fossknut_notification(section.as_ptr(), section.len(), &mut place)
+            fossknut_notification(section.as_ptr(), section.len(), &mut offset)
         )
     };
-    (number, place)
+    (number, offset)
 }
 
-/// What the library reads from a PES data packet: the data part is `length` bytes from `start` on.
+/// What the library reads from a PES data packet: the data part is `length` bytes from `offset` on.
 #[derive(Clone, Copy, Debug, PartialEq, Eq)]
 pub(crate) struct Pes {
     pub(crate) extended: u8,
     pub(crate) rated: u8,
     pub(crate) extension: usize,
     pub(crate) rate: usize,
-    pub(crate) start: usize,
+    pub(crate) offset: usize,
     pub(crate) length: usize,
 }
 
@@ -261,7 +261,7 @@ pub(crate) fn pes(packet: &[u8]) -> (u8, Pes) {
         rated: u8::MAX,
         extension: UNWRITTEN,
         rate: UNWRITTEN,
-        start: UNWRITTEN,
+        offset: UNWRITTEN,
         length: UNWRITTEN,
     };
     // SAFETY: as for `notification`.
@@ -273,7 +273,7 @@ pub(crate) fn pes(packet: &[u8]) -> (u8, Pes) {
             &mut pes.rated,
             &mut pes.extension,
             &mut pes.rate,
-            &mut pes.start,
+            &mut pes.offset,
             &mut pes.length,
         )
     };

@@ -1,5 +1,5 @@
 //! The proved core of Fossknut for a box written in Rust: safe functions over the static library
-//! `libexports.a`.
+//! `libfossknut.a`.
 //!
 //! [`Receiver`] joins datagram sections to units, [`send`] cuts units into sections, [`check`]
 //! tells whether a section is sound; [`notification`] and [`pes`] read the other two formats of EN
@@ -7,7 +7,7 @@
 //!
 //! What these functions answer is proved, in Rattle, for every slice. This crate adds Rust's types
 //! and nothing else; the calls across the boundary are in one small module. The build takes the
-//! library from the folder `FOSSKNUT_LIB_DIR`, and without it from where `rt staticlib exports`
+//! library from the folder `FOSSKNUT_LIB_DIR`, and without it from where `rt staticlib fossknut`
 //! leaves it in this repository.
 //!
 //! ```

@@ -60,8 +60,8 @@ impl<'a> Location<'a> {
         self.0[8]
     }
 
-    fn u16_at(self, place: usize) -> u16 {
-        u16::from_be_bytes([self.0[place], self.0[place + 1]])
+    fn u16_at(self, offset: usize) -> u16 {
+        u16::from_be_bytes([self.0[offset], self.0[offset + 1]])
     }
 }
 
@@ -100,7 +100,7 @@ impl<'a> Location<'a> {
 /// different versions.
 pub fn read(device: [u8; 6], section: &[u8]) -> Result<Option<Location<'_>>, Refusal> {
     match ffi::notification(device, section) {
-        (3, place) => Ok(Some(Location(&section[place..place + 9]))),
+        (3, offset) => Ok(Some(Location(&section[offset..offset + 9]))),
         (4, _) => Ok(None),
         (number, _) => Err(Refusal::answered(number)),
     }

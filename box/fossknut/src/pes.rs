@@ -51,7 +51,7 @@ pub fn read(packet: &[u8]) -> Result<Packet<'_>, Refusal> {
         (5, pes) => Ok(Packet {
             extension: (pes.extended != 0).then_some(pes.extension as u16),
             rate: (pes.rated != 0).then_some(pes.rate as u32),
-            data: &packet[pes.start..pes.start + pes.length],
+            data: &packet[pes.offset..pes.offset + pes.length],
         }),
         (number, _) => Err(Refusal::answered(number)),
     }

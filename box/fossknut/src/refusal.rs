@@ -44,7 +44,7 @@ macro_rules! refusals {
             /// The refusal that the library means by this number, which is no other answer.
             pub(crate) fn answered(number: u8) -> Self {
                 Self::from_number(number).unwrap_or_else(|| {
-                    panic!("libexports.a is of another version: it answers {number}")
+                    panic!("libfossknut.a is of another version: it answers {number}")
                 })
             }
         }

@@ -44,10 +44,10 @@ pub fn send(
     unit: &[u8],
     output: &mut [u8],
 ) -> Result<usize, Refusal> {
-    let flag = llc_snap.into();
+    let llc_snap = llc_snap.into();
     let answer = match piece_size {
-        Some(size) => ffi::send(settings, flag, size, unit, output),
-        None => ffi::send_by_default(settings, flag, unit, output),
+        Some(size) => ffi::send(settings, llc_snap, size, unit, output),
+        None => ffi::send_by_default(settings, llc_snap, unit, output),
     };
     match answer {
         (0, length) => Ok(length),

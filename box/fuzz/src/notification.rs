@@ -47,12 +47,12 @@ fn any_loops(random: &mut Random) -> Vec<u8> {
 
 pub fn compare((device, section): &Input, memory: &mut Memory, tally: &mut Tally) {
     let answer = memory.call(section, |section| ffi::notification(*device, section));
-    let Answer { number, place } = second::notification::read(*device, section);
-    same("number and place", answer, (number, place));
+    let Answer { number, offset } = second::notification::read(*device, section);
+    same("number and offset", answer, (number, offset));
     let wrapped = read(*device, section).map_err(Refusal::number);
     let wrapped = wrapped.map(|found| found.map(|nine| nine.bytes().as_ptr_range()));
     let expected = match number {
-        3 => Ok(Some(section[place..place + 9].as_ptr_range())),
+        3 => Ok(Some(section[offset..offset + 9].as_ptr_range())),
         4 => Ok(None),
         _ => Err(number),
     };

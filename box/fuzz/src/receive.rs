@@ -35,7 +35,7 @@ pub fn input(random: &mut Random) -> Row {
     // READINGS A12: any number but 0 is a 1; what else an idle state has does not matter.
     let state = State {
         run: random.pick(&[0, 0, 1, 2, 255]),
-        flag: u8::from(run.flag) * random.pick(&[1, 2, 255]),
+        llc_snap: u8::from(run.llc_snap) * random.pick(&[1, 2, 255]),
         ..numbers::state(Some(run))
     };
     let buffer_length = any_buffer_length(random, run.filled);
@@ -76,7 +76,7 @@ fn nearly_right(random: &mut Random, receiver: &mut Receiver) -> Event {
         next: 0,
         last: random.pick(&[few, few, few, limit.saturating_sub(1), limit]),
         filled: 0,
-        flag: random.one_in(2),
+        llc_snap: random.one_in(2),
     };
     let run = receiver.state.unwrap_or(first);
     let left = room(receiver.buffer.len()).saturating_sub(run.filled);

@@ -16,7 +16,7 @@ use crate::numbers;
 #[derive(Debug)]
 pub struct Sending {
     settings: Settings,
-    flag: u8,
+    llc_snap: u8,
     piece_size: Option<usize>,
     unit: Vec<u8>,
     output: Vec<u8>,
@@ -49,7 +49,7 @@ fn any_sending(random: &mut Random, piece_size: Option<usize>) -> Sending {
     };
     Sending {
         settings,
-        flag: random.pick(&[0, 1, 2, 128, 255]),
+        llc_snap: random.pick(&[0, 1, 2, 128, 255]),
         piece_size,
         unit: random.repeated(unit_length),
         output: random.repeated(output_length),
@@ -71,17 +71,17 @@ fn any_unit_length(random: &mut Random, size: usize, limit: usize) -> usize {
 
 pub fn compare(sending: &Sending, memory: &mut Memory, tally: &mut Tally) {
     let Sending { settings, unit, .. } = sending;
-    let (flag, piece_size) = (sending.flag, sending.piece_size);
+    let (llc_snap, piece_size) = (sending.llc_snap, sending.piece_size);
     let mut expected = sending.output.clone();
-    let second = send(settings, flag != 0, piece_size, unit, &mut expected);
+    let second = send(settings, llc_snap != 0, piece_size, unit, &mut expected);
     let settings = numbers::settings(settings);
     let mut output = memory.buffer(&sending.output);
-    let answer = memory.call(unit, |unit| match (flag, piece_size) {
+    let answer = memory.call(unit, |unit| match (llc_snap, piece_size) {
         // The wrapper gives no other flags.
-        (0 | 1, _) => fossknut::send(&settings, flag == 1, piece_size, unit, output.lend())
+        (0 | 1, _) => fossknut::send(&settings, llc_snap == 1, piece_size, unit, output.lend())
             .map_or_else(|refusal| (refusal.number(), 0), |length| (0, length)),
-        (_, Some(size)) => ffi::send(&settings, flag, size, unit, output.lend()),
-        (_, None) => ffi::send_by_default(&settings, flag, unit, output.lend()),
+        (_, Some(size)) => ffi::send(&settings, llc_snap, size, unit, output.lend()),
+        (_, None) => ffi::send_by_default(&settings, llc_snap, unit, output.lend()),
     });
     same("number and length", answer, (second.number, second.length));
     output.expect(&expected);

@@ -22,7 +22,7 @@ pub fn subsets(numbers: &[u8]) -> impl Iterator<Item = Vec<u8>> + '_ {
         let chosen = numbers
             .iter()
             .enumerate()
-            .filter(|(place, _)| (set >> place) & 1 == 1);
+            .filter(|(bit, _)| (set >> bit) & 1 == 1);
         chosen.map(|(_, &number)| number).collect()
     })
 }
@@ -53,10 +53,10 @@ pub fn seal(section: &mut [u8]) {
     field.copy_from_slice(&crc_32(before).to_be_bytes());
 }
 
-/// `section` with another byte at `place`, and CRC_32 right.
-pub fn with_byte(section: &[u8], place: usize, byte: u8) -> Vec<u8> {
+/// `section` with another byte at `offset`, and CRC_32 right.
+pub fn with_byte(section: &[u8], offset: usize, byte: u8) -> Vec<u8> {
     let mut section = section.to_vec();
-    section[place] = byte;
+    section[offset] = byte;
     seal(&mut section);
     section
 }
@@ -145,19 +145,19 @@ fn spoil_length(random: &mut Random, section: &mut Vec<u8>) {
 pub fn mutated(random: &mut Random, mut section: Vec<u8>) -> Vec<u8> {
     for _ in 0..random.between(1, 3) {
         let end = if random.one_in(2) { HEADER } else { LONGEST };
-        let place = random.below(section.len().clamp(1, end));
+        let offset = random.below(section.len().clamp(1, end));
         let more = random.between(1, 20);
         match random.below(8) {
-            0 => section.truncate(place),
+            0 => section.truncate(offset),
             1 => section.extend(random.bytes(more)),
             2 if section.len() >= BEFORE_LENGTH => {
                 set_section_length(&mut section, random.below(4_096))
             }
-            _ if place >= section.len() => section.push(random.byte()),
-            3 => section.insert(place, random.byte()),
-            4 => drop(section.remove(place)),
-            5 => section[place] = random.byte(),
-            _ => section[place] ^= 1 << random.below(8),
+            _ if offset >= section.len() => section.push(random.byte()),
+            3 => section.insert(offset, random.byte()),
+            4 => drop(section.remove(offset)),
+            5 => section[offset] = random.byte(),
+            _ => section[offset] ^= 1 << random.below(8),
         }
     }
     if section.len() >= SHORTEST {

@@ -25,13 +25,13 @@ pub struct Answer {
     /// The paper's number.
     pub number: u8,
     /// Where the nine bytes of the location stand in the section; 0 for all numbers but 3.
-    pub place: usize,
+    pub offset: usize,
 }
 
 struct Descriptor<'a> {
     tag: u8,
     /// Where its bytes stand in the section, behind tag and length.
-    place: usize,
+    offset: usize,
     bytes: &'a [u8],
 }
 
@@ -50,7 +50,7 @@ struct Body<'a> {
 /// Where `device`, its address as printed, finds its stream.
 pub fn read(device: [u8; 6], section: &[u8]) -> Answer {
     let fault = header_fault(section);
-    let refused = |number| Answer { number, place: 0 };
+    let refused = |number| Answer { number, offset: 0 };
     if fault != 0 {
         return refused(fault);
     }
@@ -124,16 +124,16 @@ impl<'a> Body<'a> {
     /// All loops and descriptors, if they fill the section exactly.
     fn read(section: &'a [u8]) -> Option<Self> {
         let before = &section[..section.len() - CRC_32];
-        let (platform, mut place) = read_loop(before, HEADER)?;
+        let (platform, mut offset) = read_loop(before, HEADER)?;
         let mut pairs = Vec::new();
-        while place < before.len() {
-            let (target, behind_target) = read_loop(before, place)?;
+        while offset < before.len() {
+            let (target, behind_target) = read_loop(before, offset)?;
             let (operational, behind) = read_loop(before, behind_target)?;
             pairs.push(Pair {
                 target,
                 operational,
             });
-            place = behind;
+            offset = behind;
         }
         Some(Self { platform, pairs })
     }
@@ -153,20 +153,20 @@ impl<'a> Body<'a> {
             .filter(|pair| covers(&pair.target, device))
             .find_map(|pair| location(&pair.operational).or_else(|| location(&self.platform)));
         match found {
-            Some(place) => Answer { number: 3, place },
+            Some(offset) => Answer { number: 3, offset },
             None => Answer {
                 number: 4,
-                place: 0,
+                offset: 0,
             },
         }
     }
 }
 
-/// The loop whose length stands at `place`, if it ends within `bytes` and its descriptors fill it,
+/// The loop whose length stands at `offset`, if it ends within `bytes` and its descriptors fill it,
 /// and where it ends.
-fn read_loop(bytes: &[u8], place: usize) -> Option<(Loop<'_>, usize)> {
-    let start = place + 2;
-    let end = start + low_12_bits(bytes.get(place..start)?);
+fn read_loop(bytes: &[u8], offset: usize) -> Option<(Loop<'_>, usize)> {
+    let start = offset + 2;
+    let end = start + low_12_bits(bytes.get(offset..start)?);
     let bytes = bytes.get(..end)?;
     let mut descriptors = Loop::new();
     let mut at = start;
@@ -174,7 +174,7 @@ fn read_loop(bytes: &[u8], place: usize) -> Option<(Loop<'_>, usize)> {
         let length = usize::from(*bytes.get(at + 1)?);
         descriptors.push(Descriptor {
             tag: bytes[at],
-            place: at + 2,
+            offset: at + 2,
             bytes: bytes.get(at + 2..at + 2 + length)?,
         });
         at += 2 + length;
@@ -228,7 +228,7 @@ fn location(descriptors: &Loop) -> Option<usize> {
     let first = descriptors
         .iter()
         .find(|descriptor| descriptor.tag == STREAM_LOCATION)?;
-    Some(first.place)
+    Some(first.offset)
 }
 
 #[cfg(test)]
@@ -242,8 +242,8 @@ mod tests {
     #[test]
     fn each_telling_section_gets_its_answer() {
         for notification in notifications() {
-            let Answer { number, place } = read(notification.device, &notification.section);
-            let answer = (number, place);
+            let Answer { number, offset } = read(notification.device, &notification.section);
+            let answer = (number, offset);
             assert_eq!(answer, notification.answer, "{}", notification.source);
         }
     }
@@ -284,7 +284,7 @@ mod tests {
             let (device, section) = any_notification(&mut random);
             let answer = read(device, &section);
             if answer.number == 3 {
-                let before = &section[answer.place - 2..answer.place];
+                let before = &section[answer.offset - 2..answer.offset];
                 assert_eq!(before, [STREAM_LOCATION, 9]);
             }
         }

@@ -48,9 +48,9 @@ pub fn read(packet: &[u8]) -> Result<Packet, u8> {
 
 /// The bytes of a field as a number, high byte first; what is not there counts as 0, since 43 is
 /// still to come.
-fn field(packet: &[u8], place: &mut usize, length: usize) -> u32 {
-    let bytes = (*place..*place + length).map(|at| packet.get(at).copied().unwrap_or(0));
-    *place += length;
+fn field(packet: &[u8], offset: &mut usize, length: usize) -> u32 {
+    let bytes = (*offset..*offset + length).map(|at| packet.get(at).copied().unwrap_or(0));
+    *offset += length;
     bytes.fold(0, |number, byte| number << 8 | u32::from(byte))
 }
 

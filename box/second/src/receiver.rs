@@ -48,7 +48,7 @@ pub struct Run {
     /// How many bytes of the unit are stored, f.
     pub filled: usize,
     /// LLC_SNAP_flag.
-    pub flag: bool,
+    pub llc_snap: bool,
 }
 
 impl Run {
@@ -149,7 +149,7 @@ impl Receiver {
         let run = self.state?;
         let goes_on = usize::from(section.section_number()) == run.next
             && usize::from(section.last_section_number()) == run.last
-            && (section.llc_snap_flag() == 1) == run.flag;
+            && (section.llc_snap_flag() == 1) == run.llc_snap;
         goes_on.then_some(run.filled)
     }
 
@@ -168,7 +168,7 @@ impl Receiver {
             next: number + 1,
             last,
             filled: end,
-            flag: section.llc_snap_flag() == 1,
+            llc_snap: section.llc_snap_flag() == 1,
         });
         0
     }
@@ -208,7 +208,7 @@ mod tests {
             next: 1,
             last: 1,
             filled: 4_080,
-            flag: false,
+            llc_snap: false,
         };
         assert!(good.is_good());
         assert!(Run {

@@ -10,7 +10,7 @@ pub const PIECE_SIZE: usize = 4_080;
 /// Writes the sections of `unit` to the start of `output`, or refuses to and writes nothing.
 pub fn send(
     settings: &Settings,
-    flag: bool,
+    llc_snap: bool,
     piece_size: Option<usize>,
     unit: &[u8],
     output: &mut [u8],
@@ -26,7 +26,7 @@ pub fn send(
     for number in 0..=last {
         let (piece, behind) = rest.split_at(piece_size.min(rest.len()));
         let place = &mut output[length..][..SHORTEST + piece.len()];
-        write_section(place, settings.address, flag, [number, last], piece);
+        write_section(place, settings.address, llc_snap, [number, last], piece);
         length += place.len();
         rest = behind;
     }
@@ -60,7 +60,7 @@ fn sections(unit: usize, piece_size: usize) -> usize {
 pub fn write_section(
     place: &mut [u8],
     address: [u8; 6],
-    flag: bool,
+    llc_snap: bool,
     numbers: [u8; 2],
     payload: &[u8],
 ) {
@@ -72,7 +72,7 @@ pub fn write_section(
         section_length as u8,
         mac_6,
         mac_5,
-        0xC1 | (u8::from(flag) << 1),
+        0xC1 | (u8::from(llc_snap) << 1),
         numbers[0],
         numbers[1],
         mac_4,
@@ -101,7 +101,7 @@ mod tests {
             let mut output = vec![0; sending.output_length];
             let answer = send(
                 &sending.settings,
-                sending.flag != 0,
+                sending.llc_snap != 0,
                 sending.piece_size,
                 &sending.unit,
                 &mut output,

@@ -94,10 +94,10 @@ fn every_value_of_each_header_byte() {
     let mut random = Random::new(2);
     for length in [16, 61, 188, 269] {
         let section = sound_of(&mut random, length);
-        for place in 0..12 {
+        for offset in 0..12 {
             for value in 0..=0xFF {
                 let mut section = section.clone();
-                section[place] = value;
+                section[offset] = value;
                 library.agreed(&section);
                 seal(&mut section);
                 library.agreed(&section);

@@ -69,13 +69,13 @@ fn no_bytes_at_no_address() {
 fn every_value_of_each_byte() {
     let mut library = Library::new();
     let mut bytes = Random::new(2).bytes(67);
-    for place in 0..bytes.len() {
-        let before = bytes[place];
+    for offset in 0..bytes.len() {
+        let before = bytes[offset];
         for value in 0..=0xFF {
-            bytes[place] = value;
+            bytes[offset] = value;
             let expected = second::crc_32(&bytes);
-            assert_eq!(library.crc_32(&bytes), expected, "{value:#04X} at {place}");
+            assert_eq!(library.crc_32(&bytes), expected, "{value:#04X} at {offset}");
         }
-        bytes[place] = before;
+        bytes[offset] = before;
     }
 }

@@ -14,12 +14,12 @@ use second::telling;
 const LOCATION: &[u8] = b"\x13\x09location!";
 
 impl Library {
-    /// The library's number and place, which have to be the second program's, as the wrapper's
+    /// The library's number and offset, which have to be the second program's, as the wrapper's
     /// answer has to be.
     fn notification(&mut self, device: [u8; 6], section: &[u8]) -> (u8, usize) {
         let answer = self.call(section, |section| ffi::notification(device, section));
         let expected = second::notification::read(device, section);
-        let expected = (expected.number, expected.place);
+        let expected = (expected.number, expected.offset);
         assert_eq!(answer, expected, "{device:02X?} in {section:02X?}");
         match notification::read(device, section) {
             Ok(Some(location)) => {
@@ -95,8 +95,8 @@ fn as_many_pairs_as_can_be() {
     loops.extend([vec![], LOCATION.to_vec()]);
     let section = with_loops(&loops);
     assert_eq!(section.len(), 4_093);
-    let place = section.len() - 4 - 9;
-    assert_eq!(library.notification(OURS, &section), (3, place));
+    let offset = section.len() - 4 - 9;
+    assert_eq!(library.notification(OURS, &section), (3, offset));
 }
 
 /// A descriptor of every tag and of lengths around those of the known ones, in each loop.
@@ -110,9 +110,9 @@ fn every_tag_and_length_in_each_loop() {
             if !known && length % 3 != 0 {
                 continue;
             }
-            for place in 0..3 {
+            for turn in 0..3 {
                 let mut loops = vec![vec![], vec![], LOCATION.to_vec()];
-                loops[place].extend(descriptor(tag, &random.bytes(length)));
+                loops[turn].extend(descriptor(tag, &random.bytes(length)));
                 library.notification(OURS, &with_loops(&loops));
             }
         }
@@ -124,10 +124,10 @@ fn every_value_of_each_byte() {
     let mut library = Library::new();
     let targeted = descriptor(0x07, &[[0xFF; 6], OURS].concat());
     let section = with_loops(&[vec![0x80, 0], targeted, LOCATION.to_vec()]);
-    for place in 0..section.len() {
+    for offset in 0..section.len() {
         for value in 0..=0xFF {
             let mut section = section.clone();
-            section[place] = value;
+            section[offset] = value;
             if value % 16 == 0 {
                 library.notification(OURS, &section);
             }

@@ -18,7 +18,7 @@ pub(crate) fn state(second: Option<Run>) -> ffi::State {
         next: run.next,
         last: run.last,
         filled: run.filled,
-        flag: run.flag.into(),
+        llc_snap: run.llc_snap.into(),
     })
 }
 
@@ -29,7 +29,7 @@ pub(crate) fn pes(read: &Result<Packet, u8>) -> (u8, ffi::Pes) {
         rated: 0,
         extension: 0,
         rate: 0,
-        start: 0,
+        offset: 0,
         length: 0,
     };
     match read {
@@ -40,7 +40,7 @@ pub(crate) fn pes(read: &Result<Packet, u8>) -> (u8, ffi::Pes) {
                 rated: packet.rate.is_some().into(),
                 extension: packet.extension.unwrap_or(0).into(),
                 rate: packet.rate.unwrap_or(0) as usize,
-                start: packet.data.start,
+                offset: packet.data.start,
                 length: packet.data.len(),
             };
             (5, pes)

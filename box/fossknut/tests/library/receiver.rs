@@ -175,7 +175,7 @@ fn settings_and_states_of_any_value() {
         });
         // READINGS A12: any number but 0 is a 1.
         let any_1 = random.pick(&[1, 2, 128, 255]);
-        pair.state.flag *= any_1;
+        pair.state.llc_snap *= any_1;
         pair.state.run *= any_1;
         tally.count(pair.receive(&section).0);
     }
@@ -208,25 +208,25 @@ fn passed_by_rewrites_numbers_that_no_state_has() {
         limit: 16,
     };
     let others = sound([0; 6], 0, 0, b"knut");
-    let passed_by = |run, flag| {
+    let passed_by = |run, llc_snap| {
         let mut state = ffi::State {
             run,
             next: 2,
             last: 3,
             filled: 5,
-            flag,
+            llc_snap,
         };
         let mut buffer = *b"Fosskn";
         let answer = ffi::receive(&ours, &mut state, &others, &mut buffer);
         assert_eq!((answer, buffer), ((2, 0), *b"Fosskn"));
         state
     };
-    let open = |flag| ffi::State {
+    let open = |llc_snap| ffi::State {
         run: 1,
         next: 2,
         last: 3,
         filled: 5,
-        flag,
+        llc_snap,
     };
     assert_eq!(passed_by(1, 1), open(1));
     assert_eq!(passed_by(7, 0), open(0));
@@ -241,7 +241,7 @@ fn gap_notices_in_any_state() {
     for _ in 0..10_000 {
         let mut state = ffi::State {
             run: random.byte(),
-            flag: random.byte(),
+            llc_snap: random.byte(),
             ..numbers::state(Some(any_state(&mut random)))
         };
         ffi::gap(&mut state);

@@ -16,7 +16,7 @@ const PATTERN: u8 = 0xA5;
 /// One call of the sender.
 struct Call<'a> {
     settings: Settings,
-    flag: u8,
+    llc_snap: u8,
     piece_size: Option<usize>,
     unit: &'a [u8],
 }
@@ -25,10 +25,10 @@ impl Call<'_> {
     /// What the second program answers, and the whole output buffer after it.
     fn second(&self, output_length: usize) -> ((u8, usize), Vec<u8>) {
         let mut output = vec![PATTERN; output_length];
-        let flag = self.flag != 0;
+        let llc_snap = self.llc_snap != 0;
         let answer = second::sender::send(
             &self.settings,
-            flag,
+            llc_snap,
             self.piece_size,
             self.unit,
             &mut output,
@@ -57,8 +57,8 @@ impl Memory {
         let unit = self.unit.at_end(call.unit);
         let settings = numbers::settings(&call.settings);
         let given = match call.piece_size {
-            Some(size) => ffi::send(&settings, call.flag, size, unit, output),
-            None => ffi::send_by_default(&settings, call.flag, unit, output),
+            Some(size) => ffi::send(&settings, call.llc_snap, size, unit, output),
+            None => ffi::send_by_default(&settings, call.llc_snap, unit, output),
         };
         let of = (call.unit.len(), call.piece_size, expected.len());
         assert_eq!(given, answer, "unit, piece size and output buffer {of:?}");
@@ -87,7 +87,7 @@ fn telling_inputs() {
     for sending in telling::sendings() {
         let call = Call {
             settings: sending.settings,
-            flag: sending.flag,
+            llc_snap: sending.llc_snap,
             piece_size: sending.piece_size,
             unit: &sending.unit,
         };
@@ -119,7 +119,7 @@ fn every_length() {
         for length in (0..=9_000.min(most + 1)).step_by(step) {
             let call = Call {
                 settings,
-                flag: (length % 3) as u8,
+                llc_snap: (length % 3) as u8,
                 piece_size,
                 unit: &bytes[length % 1_000..][..length],
             };
@@ -154,7 +154,7 @@ fn the_longest_units() {
                 range: 1,
                 limit,
             },
-            flag: 0xFF,
+            llc_snap: 0xFF,
             piece_size,
             unit: &bytes[..length],
         };
@@ -197,7 +197,7 @@ fn faulty_call<'a>(random: &mut Random, bytes: &'a [u8], faults: &[u8]) -> (Call
     };
     let call = Call {
         settings,
-        flag: random.byte(),
+        llc_snap: random.byte(),
         piece_size: Some(piece_size),
         unit: &bytes[..length],
     };

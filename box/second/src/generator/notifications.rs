@@ -117,10 +117,10 @@ fn any_loops(random: &mut Random, device: [u8; 6]) -> Vec<Vec<u8>> {
         .collect();
     let room = LONGEST - 30 - with_loops(&loops).len();
     if random.one_in(10) {
-        let place = random.below(loops.len());
+        let turn = random.below(loops.len());
         let length = random.pick(&[2, 300, room]);
         let filler = filler(random, length);
-        loops[place].extend(filler);
+        loops[turn].extend(filler);
     }
     loops
 }
@@ -236,10 +236,10 @@ fn spoil(random: &mut Random, section: &mut [u8], fault: u8) {
 pub fn bytes_changed(random: &mut Random) -> ([u8; 6], Vec<u8>) {
     let (device, mut section) = any_notification(random);
     for _ in 0..random.between(1, 3) {
-        let place = random.between(HEADER, section.len() - CRC_32 - 1);
-        section[place] = match random.below(3) {
-            0 => section[place].wrapping_add(1),
-            1 => section[place].wrapping_sub(1),
+        let offset = random.between(HEADER, section.len() - CRC_32 - 1);
+        section[offset] = match random.below(3) {
+            0 => section[offset].wrapping_add(1),
+            1 => section[offset].wrapping_sub(1),
             _ => random.byte(),
         };
     }

@@ -71,7 +71,7 @@ pub fn any_run(random: &mut Random, settings: &Settings) -> Vec<Vec<u8>> {
         _ => random.between(0, most),
     };
     let address = any_address(random, settings);
-    let flag = u8::from(random.one_in(2)) << 1;
+    let llc_snap = u8::from(random.one_in(2)) << 1;
     let longest = if random.one_in(500) { 4_080 } else { 20 };
     let numbers = 0..=last.min(40) as u8;
     numbers
@@ -79,7 +79,7 @@ pub fn any_run(random: &mut Random, settings: &Settings) -> Vec<Vec<u8>> {
             let payload_length = random.between(0, longest);
             let payload = random.bytes(payload_length);
             let mut section = sound(address, number, last as u8, &payload);
-            section[5] |= flag;
+            section[5] |= llc_snap;
             if random.one_in(60) {
                 section[5] |= (random.between(1, 3) as u8) << 4; // payload scrambling
             }
@@ -131,9 +131,9 @@ fn damage(random: &mut Random, section: &mut [u8]) {
     }
 }
 
-fn set_and_seal(section: &mut [u8], place: usize, to: impl Fn(u8) -> u8) {
+fn set_and_seal(section: &mut [u8], offset: usize, to: impl Fn(u8) -> u8) {
     if section.len() >= 16 {
-        section[place] = to(section[place]);
+        section[offset] = to(section[offset]);
         seal(section);
     }
 }
@@ -193,7 +193,7 @@ pub fn any_state(random: &mut Random) -> Run {
         next,
         last,
         filled,
-        flag: random.one_in(2),
+        llc_snap: random.one_in(2),
     }
 }
 
@@ -208,7 +208,7 @@ pub fn good_state(random: &mut Random) -> Run {
         next,
         last: 254.min(next + random.below(3)),
         filled: random.pick(&[less, less, most, most - less]),
-        flag: random.one_in(2),
+        llc_snap: random.one_in(2),
     }
 }
 
@@ -225,7 +225,7 @@ pub fn nearly_continuing(
     }
     let payload = random.repeated(payload_length);
     let mut section = sound(address, run.next as u8, run.last as u8, &payload);
-    section[5] |= u8::from(run.flag) << 1;
+    section[5] |= u8::from(run.llc_snap) << 1;
     match random.below(16) {
         0 => section[5] ^= 2,
         1 => section[5] ^= 0x10,

@@ -11,7 +11,7 @@ pub struct Notification {
     pub device: [u8; 6],
     /// The section.
     pub section: Vec<u8>,
-    /// Number and place.
+    /// Number and offset.
     pub answer: (u8, usize),
 }
 
@@ -19,11 +19,11 @@ pub struct Notification {
 pub fn notifications() -> Vec<Notification> {
     let rows = headers().into_iter().chain(loops()).chain(lengths());
     let rows = rows.chain(covering()).chain(locations());
-    rows.map(|(source, section, number, place)| Notification {
+    rows.map(|(source, section, number, offset)| Notification {
         source,
         device: OURS,
         section,
-        answer: (number, place),
+        answer: (number, offset),
     })
     .collect()
 }

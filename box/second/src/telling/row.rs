@@ -113,7 +113,7 @@ fn passing_by() -> Vec<Row> {
 
 #[rustfmt::skip] // a row a line
 fn states() -> Vec<Row> {
-    let run = |next, last, filled| Some(Run { next, last, filled, flag: false });
+    let run = |next, last, filled| Some(Run { next, last, filled, llc_snap: false });
     let too_long = vec![ours(0, 1, 6), ours(1, 1, 1)];
     vec![
         Row { state: run(1, 200, 0), ..row("A7: a state above the limit", vec![ours(1, 200, 1)], &[(21, 0)]) },
@@ -128,7 +128,7 @@ fn states() -> Vec<Row> {
 #[rustfmt::skip] // a row a line
 fn first_sections() -> Vec<Row> {
     let limit = |limit| Settings { limit, ..SETTINGS };
-    let run = Some(Run { next: 1, last: 2, filled: 9, flag: false });
+    let run = Some(Run { next: 1, last: 2, filled: 9, llc_snap: false });
     vec![
         Row { settings: limit(255), ..row("A9: L = 255 with limit 255", vec![ours(0, 255, 0)], &[(21, 0)]) },
         Row { settings: limit(255), ..row("A9: L = 254 with limit 255", vec![ours(0, 254, 0)], &[(1, 0)]) },

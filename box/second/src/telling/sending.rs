@@ -11,7 +11,7 @@ pub struct Sending {
     /// The sender's settings.
     pub settings: Settings,
     /// LLC_SNAP_flag in a number: any but 0 is 1.
-    pub flag: u8,
+    pub llc_snap: u8,
     /// The piece size, if one is given.
     pub piece_size: Option<usize>,
     /// The unit.
@@ -42,7 +42,7 @@ fn sending(
     Sending {
         source,
         settings: SETTINGS,
-        flag: 0,
+        llc_snap: 0,
         piece_size,
         unit: vec![0x55; unit_length],
         output_length: 70_000,
@@ -67,8 +67,8 @@ fn numbers() -> Vec<Sending> {
     let settings = Settings { limit: 256, ..SETTINGS };
     let with_flag = vec![0x3E, 0xB0, 0x0D, 0x30, 0x20, 0xC3];
     vec![
-        Sending { flag: 1, output: with_flag.clone(), ..sending("A12: flag 1", None, 0, (0, 16)) },
-        Sending { flag: 2, output: with_flag, ..sending("A12: flag 2", None, 0, (0, 16)) },
+        Sending { llc_snap: 1, output: with_flag.clone(), ..sending("A12: flag 1", None, 0, (0, 16)) },
+        Sending { llc_snap: 2, output: with_flag, ..sending("A12: flag 2", None, 0, (0, 16)) },
         sending("A14: piece size 0", Some(0), 0, (50, 0)),
         sending("A14: no piece size", None, 4_081, (0, 4_113)),
         Sending { settings, ..sending("A15: 10 before what else is wrong", None, 65_536, (10, 0)) },
