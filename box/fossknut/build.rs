@@ -1,19 +1,24 @@
-//! Finds the static library: in `FOSSKNUT_LIB_DIR`, else where `rt staticlib fossknut` leaves it.
+//! Finds the static library: in `FOSSKNUT_LIB_DIR`, else where `rt staticlib` leaves it.
 
 use std::env;
 use std::path::{Path, PathBuf};
 use std::process::exit;
 
+/// The proved crate that the library is made of.
+const CRATE: &str = "fossknut";
+
 fn main() {
     println!("cargo:rerun-if-env-changed=FOSSKNUT_LIB_DIR");
+    // The scripts name the library's content, since Cargo sees only that a file is newer.
+    println!("cargo:rerun-if-env-changed=FOSSKNUT_LIB_CONTENT");
     let folder = env::var_os("FOSSKNUT_LIB_DIR").map_or_else(
         || Path::new(env!("CARGO_MANIFEST_DIR")).join("../../target/staticlib"),
         PathBuf::from,
     );
-    let library = folder.join("libfossknut.a");
+    let library = folder.join(format!("lib{CRATE}.a"));
     if !library.is_file() {
         eprintln!(
-            "{} is missing: run `rt staticlib fossknut` at the root of the repository, \
+            "{} is missing: run `rt staticlib {CRATE}` at the root of the repository, \
              or set FOSSKNUT_LIB_DIR to the folder that has it",
             library.display()
         );
@@ -21,5 +26,5 @@ fn main() {
     }
     println!("cargo:rerun-if-changed={}", library.display());
     println!("cargo:rustc-link-search=native={}", folder.display());
-    println!("cargo:rustc-link-lib=static=fossknut");
+    println!("cargo:rustc-link-lib=static={CRATE}");
 }

@@ -4,7 +4,7 @@
 //! A line a section: the answer's number, and with 3 the location: network_id,
 //! original_network_id, transport_stream_id, service_id and component_tag.
 
-use std::io;
+use std::io::{self, Write};
 
 use fossknut::notification::{read, Location, Refusal};
 
@@ -12,11 +12,12 @@ fn main() -> io::Result<()> {
     for line in io::stdin().lines() {
         let line = line?;
         let (device, section) = parse(&line).ok_or(io::ErrorKind::InvalidData)?;
-        match read(device, &section) {
-            Ok(Some(location)) => println!("3 {}", text(location)),
-            Ok(None) => println!("4"),
-            Err(refusal) => println!("{}", Refusal::number(refusal)),
-        }
+        let answer = match read(device, &section) {
+            Ok(Some(location)) => format!("3 {}", text(location)),
+            Ok(None) => "4".into(),
+            Err(refusal) => Refusal::number(refusal).to_string(),
+        };
+        writeln!(io::stdout(), "{answer}")?;
     }
     Ok(())
 }

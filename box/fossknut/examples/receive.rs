@@ -1,7 +1,7 @@
 //! Receives the datagrams of a recording: `receive [FILE]`, standard input without a file.
 //!
 //! A line a section: its offset, the receiver's answer, and the length of the unit that it
-//! delivers.
+//! delivers. It ends with 0 whatever the answers are, with 1 if the input or the output fails.
 
 mod recording;
 
@@ -16,12 +16,13 @@ fn main() -> ExitCode {
         limit: 16,
     };
     let mut receiver = Receiver::new(settings, [0; 65_535]);
-    recording::print_lines(|section| {
+    let printed = recording::print_lines("receive", |section| {
         let answer = receiver.receive(section);
         let length = match answer {
             Answer::Delivered(unit) => unit.len(),
             _ => 0,
         };
         format!("{} {length}", answer.number())
-    })
+    });
+    printed.err().unwrap_or(ExitCode::SUCCESS)
 }
