@@ -11,7 +11,7 @@ use Rattle.wire.specs.Choice.{pick}
 use Rattle.wire.specs.Part.{Is, Part}
 use Rattle.rules.specs.declared.Address.{Address}
 use Rattle.notification_rules.specs.Format.{Answer, answerTo, foundNobody, Gives, refusedWith}
-use Rattle.notification_rules.specs.Notice.{noticeNumber, noticeOf}
+use Rattle.notification_rules.specs.Finding.{findingNumber, findingOf}
 use Rattle.notification_rules.proofs.Answered.{written-is-found}
 use Rattle.notification_rules.proofs.Exactly.{others-give-nothing, taken-exactly}
 use Rattle.notification_rules.proofs.Meaning.{notification-means}
@@ -25,16 +25,16 @@ use Rattle.pes_rules.proofs.Written.{written-is-read}
 use Rattle.caller_numbers.specs.Numbers.{flagNumber}
 use Rattle.fossknut.specs.Told.{PacketTold}
 use Rattle.demands.specs.Abroad.{NotificationGiven, notificationGiven}
-use Rattle.demands.specs.Readers.{Notices, packetNumbers, Packets, Readers}
+use Rattle.demands.specs.Readers.{Findings, packetNumbers, Packets, Readers}
 
 -- what is equal to the rules' number has its meaning
 by : {m z n : ℕ} {p : Type 0} → z ≡ m → (m ≡ n) ↔ p → (z ≡ n) ↔ p
 by e h = (λ q. h .0 (sym e ∙ q), λ x. e ∙ h .1 x)
 
 -- ---- what holds of the outcome holds of a number that is the outcome's, and of all that is told with it
-notices : (device : Address) (s : List ℕ) (number : ℕ) (Told : Answer → Type 0) → number ≡ noticeNumber (noticeOf device s)
-    → ((x : Answer) → Gives device s x → Told x) → Notices device s number Told
-notices device s number Told e told =
+findings : (device : Address) (s : List ℕ) (number : ℕ) (Told : Answer → Type 0) → number ≡ findingNumber (findingOf device s)
+    → ((x : Answer) → Gives device s x → Told x) → Findings device s number Told
+findings device s number Told e told =
     let others = others-give-nothing device s in
     record {
       means = λ b k. by e (notification-means device s b k);
@@ -89,11 +89,11 @@ given {s = s} t g =
 pub readers : Readers
 readers =
     record {
-      notice = λ κs (device, (s, _)) z e p. notices device (now s) (noticeNumber z) _ (ap noticeNumber p) (λ x g. p ∙ g .notice);
+      finding = λ κs (device, (s, _)) z e p. findings device (now s) (findingNumber z) _ (ap findingNumber p) (λ x g. p ∙ g .finding);
       notification-read = λ κs (device, (s, _)) z e p.
-          notices device (now s) _ _ (p .number) (λ x g. (p .number ∙ g .number, same-part _ _ _ z (g .given) (p .part)));
+          findings device (now s) _ _ (p .number) (λ x g. (p .number ∙ g .number, same-part _ _ _ z (g .given) (p .part)));
       fossknut-notification = λ κs a z e p. let given : NotificationGiven = notificationGiven κs a in
-          notices (given .device) (given .section) z _ (p .number) (λ x g. (p .number ∙ g .number, p .offset ∙ g .offset));
+          findings (given .device) (given .section) z _ (p .number) (λ x g. (p .number ∙ g .number, p .offset ∙ g .offset));
       pes-read = λ κs (packet, _) z e p. packets (now packet) (z .answer) _ (ap (λ (r : Reading). r .answer) p) (λ r q g. p ∙ g .reading);
       pes-data = λ κs (packet, _) z e p. (readOf (now packet) .answer, packets (now packet) _ _ refl (λ r q g. same-part _ _ _ z (g .given) p));
       fossknut-pes = λ κs (packet, _) z e p. packets (now packet) z _ (p .answer) (λ r q g. given p g);

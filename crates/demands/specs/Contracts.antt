@@ -127,8 +127,8 @@ offer-length = function recording.offer_length.Kinds.ps recording.offer_length.K
 abbrev pub notification-read : Function
 notification-read = function notification.read.Kinds.ps notification.read.Kinds.r notification.read.Reads.Learnt
 
-abbrev pub notice : Function
-notice = function notification.notice.Kinds.ps notification.notice.Kinds.r notification.notice.Reads.Learnt
+abbrev pub finding : Function
+finding = function notification.finding.Kinds.ps notification.finding.Kinds.r notification.finding.Reads.Learnt
 
 abbrev pub pes-read : Function
 pes-read = function pes.read.Kinds.ps pes.read.Kinds.r pes.read.Reads.Learnt
@@ -148,11 +148,11 @@ sending-number = function answer_numbers.sending_number.Kinds.ps answer_numbers.
 abbrev pub sending-length : Function
 sending-length = function answer_numbers.sending_length.Kinds.ps answer_numbers.sending_length.Kinds.r answer_numbers.sending_length.Reads.Learnt
 
-abbrev pub notice-number : Function
-notice-number = function notification_numbers.notice_number.Kinds.ps notification_numbers.notice_number.Kinds.r notification_numbers.notice_number.Reads.Learnt
+abbrev pub finding-number : Function
+finding-number = function notification_numbers.finding_number.Kinds.ps notification_numbers.finding_number.Kinds.r notification_numbers.finding_number.Reads.Learnt
 
-abbrev pub notice-place : Function
-notice-place = function notification_numbers.notice_place.Kinds.ps notification_numbers.notice_place.Kinds.r notification_numbers.notice_place.Reads.Learnt
+abbrev pub finding-offset : Function
+finding-offset = function notification_numbers.finding_offset.Kinds.ps notification_numbers.finding_offset.Kinds.r notification_numbers.finding_offset.Reads.Learnt
 
 abbrev pub address-of : Function
 address-of = function caller_numbers.address_of.Kinds.ps caller_numbers.address_of.Kinds.r caller_numbers.address_of.Reads.Learnt

@@ -14,7 +14,7 @@ use Rattle.wire.specs.Part.{Is, Part, part}
 use Rattle.rules.specs.declared.Address.{Address}
 use Rattle.notification_rules.specs.Format.{Answer, answerTo, Conforms, foundNobody, Notification, notificationWritten, refusedWith, Written}
 use Rattle.notification_rules.specs.Meaning.{notificationRows}
-use Rattle.notification_rules.specs.Notice.{noticeNumber}
+use Rattle.notification_rules.specs.Finding.{findingNumber}
 use Rattle.pes_rules.specs.declared.Reading.{Reading}
 use Rattle.pes_rules.specs.Meaning.{packetRows}
 use Rattle.pes_rules.specs.Written.{Conforms as CanWrite, dataPartOf, packetOf, readingOf, Values, Written as WrittenPacket, zeros}
@@ -23,7 +23,7 @@ use Rattle.demands.specs.Allowed.{Allowed}
 use Rattle.demands.specs.Contracts as contracts
 
 -- ---- a device, a section and the number that is told; `Told` says that all that is told is what an answer has
-pub record Notices (device : Address) (s : List ℕ) (number : ℕ) (Told : Answer → Type 0) : Type 0 where
+pub record Findings (device : Address) (s : List ℕ) (number : ℕ) (Told : Answer → Type 0) : Type 0 where
   -- the first of 12 to 18, 30 to 33, 3 and 4 that applies
   pub means : Bytes s → (k : ℕ) → (number ≡ k) ↔ FirstThat k (notificationRows device s)
   -- a section that table 13 writes is answered as its value says, 3 with the nine bytes and their place
@@ -60,15 +60,15 @@ packetNumbers r p =
 
 -- ---- what the contracts of the code allow
 pub record Readers : Type 0 where
-  pub notice : Allowed contracts.notice
-      (λ κs (device, (s, _)) z e. Notices device (now s) (noticeNumber z) (λ x. z ≡ x .notice))
+  pub finding : Allowed contracts.finding
+      (λ κs (device, (s, _)) z e. Findings device (now s) (findingNumber z) (λ x. z ≡ x .finding))
   -- the number is written through `answer`; z is that part of the section, bytes and place
   pub notification-read : Allowed contracts.notification-read
       (λ κs (device, (s, _)) z (_, (_, (answer, _))).
-      Notices device (now s) (now answer) (λ x. (now answer ≡ x .number) × Is (s .ptr) (x .given) z))
+      Findings device (now s) (now answer) (λ x. (now answer ≡ x .number) × Is (s .ptr) (x .given) z))
   pub fossknut-notification : Allowed contracts.fossknut-notification
       (λ κs a z e. let given = notificationGiven κs a in
-      Notices (given .device) (given .section) z (λ x. (z ≡ x .number) × (offsetGave κs e ≡ x .given .offset)))
+      Findings (given .device) (given .section) z (λ x. (z ≡ x .number) × (offsetGave κs e ≡ x .given .offset)))
   pub pes-read : Allowed contracts.pes-read
       (λ κs (packet, _) z e. Packets (now packet) (z .answer) (λ r p. z ≡ r))
   -- z is the data part of the packet, bytes and place; the number is not told, and is the rows' own

@@ -12,7 +12,7 @@ use Rattle.rules.specs.Send.{sections}
 use Rattle.rules.specs.Step.{lengthOf, numberOf, Outcome, stepOf}
 use Rattle.rules.specs.Row.{Event, fresh, gap, Held, next, section}
 use Rattle.pes_rules.specs.Packet.{dataOf, readOf}
-use Rattle.notification_rules.specs.Notice.{noticeOf, noticeNumber}
+use Rattle.notification_rules.specs.Finding.{findingOf, findingNumber}
 
 -- ---- the bench
 -- the settings of the listing
@@ -42,7 +42,7 @@ packet s = readOf s .answer ∷ readOf s .extension ∷ readOf s .rate ∷ dataO
 -- the answer to an INT section with no loops for the platform 01 02 04, with this hash
 abbrev pub platform : ℕ → ℕ
 platform hash =
-    noticeNumber (noticeOf (own .address) (sealed (0x4C ∷ 0xB0 ∷ 15 ∷ 0x01 ∷ hash ∷ 0xC1 ∷ 0 ∷ 0 ∷ 0x01 ∷ 0x02 ∷ 0x04 ∷ 0 ∷ 0xF0 ∷ 0 ∷ [])))
+    findingNumber (findingOf (own .address) (sealed (0x4C ∷ 0xB0 ∷ 15 ∷ 0x01 ∷ hash ∷ 0xC1 ∷ 0 ∷ 0 ∷ 0x01 ∷ 0x02 ∷ 0x04 ∷ 0 ∷ 0xF0 ∷ 0 ∷ [])))
 
 -- ---- the table
 -- what the rules give, and what document 01 says

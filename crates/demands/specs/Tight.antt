@@ -73,7 +73,7 @@ pub record Tight : Type 0 where
   -- notification: the number that is written, and the part of the section
   pub notification-read : AnyTwo contracts.notification-read
       (λ κs z y (_, (_, (e, _))) (_, (_, (d, _))). (now e ≡ now d) × SamePart z y)
-  pub notice : OneResult contracts.notice
+  pub finding : OneResult contracts.finding
   -- pes
   pub pes-read : OneResult contracts.pes-read
   pub pes-data : AnyTwo contracts.pes-data
@@ -83,8 +83,8 @@ pub record Tight : Type 0 where
   pub length-of : OneResult contracts.length-of
   pub sending-number : OneResult contracts.sending-number
   pub sending-length : OneResult contracts.sending-length
-  pub notice-number : OneResult contracts.notice-number
-  pub notice-place : OneResult contracts.notice-place
+  pub finding-number : OneResult contracts.finding-number
+  pub finding-offset : OneResult contracts.finding-offset
   -- caller_numbers
   pub address-of : OneResult contracts.address-of
   pub settings-of : OneResult contracts.settings-of

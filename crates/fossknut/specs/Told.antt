@@ -4,8 +4,8 @@ use mathlib.Core.Path.{_≡_}
 use mathlib.Core.List.{List}
 use Rattle.rules.specs.Send.{SendOutcome, sendingNumber, sendingLength}
 use Rattle.rules.specs.Step.{Outcome, numberOf, lengthOf}
-use Rattle.notification_rules.specs.declared.Notice.{Notice}
-use Rattle.notification_rules.specs.Notice.{noticeNumber, noticePlace}
+use Rattle.notification_rules.specs.declared.Finding.{Finding}
+use Rattle.notification_rules.specs.Finding.{findingNumber, findingOffset}
 use Rattle.pes_rules.specs.declared.Reading.{Reading}
 use Rattle.caller_numbers.specs.Numbers.{flagNumber, Numbers, numbersOf}
 
@@ -23,12 +23,12 @@ pub record SendTold (o : SendOutcome) (r l : ℕ) (out : List ℕ) : Type 0 wher
   pub length : l ≡ sendingLength (o .sending)
   pub output : out ≡ o .output
 
--- of the INT reader: the number and the place
-pub record Noticed (o : Notice) (r p : ℕ) : Type 0 where
-  pub number : r ≡ noticeNumber o
-  pub offset : p ≡ noticePlace o
+-- of the INT reader: the number and the offset
+pub record FindingTold (o : Finding) (r p : ℕ) : Type 0 where
+  pub number : r ≡ findingNumber o
+  pub offset : p ≡ findingOffset o
 
--- of the PES reader: the answer, both flags, both values, and the place and the length of the data
+-- of the PES reader: the answer, both flags, both values, and the offset and the length of the data
 pub record PacketTold (o : Reading) (r e d x v p n : ℕ) : Type 0 where
   pub answer : r ≡ o .answer
   pub extended : e ≡ flagNumber (o .extended)

@@ -9,8 +9,8 @@ ghost use Rattle.rules.specs.Crc.{crc32};
 ghost use Rattle.rules.specs.Send.{sentOf, defaultPiece};
 ghost use Rattle.rules.specs.Step.{stepOf, gapOf};
 ghost use Rattle.caller_numbers.specs.Numbers.{addressOf, settingsOf, flagOf, numbers, stateOf, numbersOf};
-ghost use Rattle.fossknut.specs.Told.{ReceiveTold, SendTold, Noticed, PacketTold};
-ghost use Rattle.notification_rules.specs.Notice.{noticeOf};
+ghost use Rattle.fossknut.specs.Told.{ReceiveTold, SendTold, FindingTold, PacketTold};
+ghost use Rattle.notification_rules.specs.Finding.{findingOf};
 ghost use Rattle.pes_rules.specs.Packet.{readOf};
 
 // CRC_32 of the bytes.
@@ -141,8 +141,8 @@ pub extern "C" fn fossknut_send_by_default(
     answer_numbers::sending_number(sending)
 }
 
-// The INT reader for the device with this address in printed order. With 3 the nine bytes stand at `place` in the section; with any other
-// answer it is 0.
+// The INT reader for the device with this address in printed order. With 3 `offset` is where the nine bytes begin in the section; with any
+// other answer it is 0.
 #[no_mangle]
 pub extern "C" fn fossknut_notification(
     mac1: u8,
@@ -152,16 +152,16 @@ pub extern "C" fn fossknut_notification(
     mac5: u8,
     mac6: u8,
     s: &[u8],
-    place: &mut usize,
+    offset: &mut usize,
 ) -> u8
-    ensures { λ r. ⌜ Noticed (noticeOf (addressOf mac1 mac2 mac3 mac4 mac5 mac6) (now (s .entry))) r (now (place .exit)) ⌝ }
+    ensures { λ r. ⌜ FindingTold (findingOf (addressOf mac1 mac2 mac3 mac4 mac5 mac6) (now (s .entry))) r (now (offset .exit)) ⌝ }
 {
-    let notice = notification::notice(address_of(mac1, mac2, mac3, mac4, mac5, mac6), s);
-    *offset = notification_numbers::notice_place(notice);
-    notification_numbers::notice_number(notice)
+    let finding = notification::finding(address_of(mac1, mac2, mac3, mac4, mac5, mac6), s);
+    *offset = notification_numbers::finding_offset(finding);
+    notification_numbers::finding_number(finding)
 }
 
-// The PES data packet reader: the answer; flags, values and the data's place in the packet go through the numbers lent.
+// The PES data packet reader: the answer; flags, values, the data's offset in the packet and its length go through the numbers lent.
 #[no_mangle]
 pub extern "C" fn fossknut_pes(
     packet: &[u8],

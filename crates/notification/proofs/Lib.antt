@@ -1,5 +1,5 @@
 pub mod Addresses
 pub mod Answers
-pub mod Faults
+pub mod Fits
 pub mod Locations
 pub mod Pairs

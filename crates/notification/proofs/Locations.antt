@@ -2,26 +2,29 @@
 use Prim.Native.Nat.{ℕ, _+_, _-_, _≤_, _<_}
 use native.Mathlib.Omega.{arith}
 use native.Mathlib.Decide.{decLe}
-use mathlib.Core.Path.{_≡_, refl, sym, ap, _∙_}
-use mathlib.Core.Bool.{true}
+use mathlib.Core.Path.{_≡_, refl, sym, ap, ap₂, _∙_}
+use mathlib.Core.Bool.{Bool, true, false, not}
 use mathlib.Core.List.{List, [], _∷_}
 use lib.ListN.{length, take, drop, length-drop, drop-of-length-le}
-use lib.Seq.{drop-drop, length-take-le}
+use lib.Seq.{drop-drop}
+use lib.Dec.{eqb}
 use borrow.Author.Tests.{eq-eqb, ne-eqb}
-use denote.Ref.{RefT, now}
 use Rattle.wire.specs.Choice.{pick}
 use Rattle.wire.specs.Bytes.{byteAt}
+use Rattle.wire.specs.Part.{Part, part}
 use Rattle.wire.proofs.Choice.{never}
-use Rattle.notification_rules.specs.declared.Notice.the-variants.{Found}
-use Rattle.wire.specs.Part.{Part, part, Is}
-use Rattle.notification_rules.specs.Cut.{placed}
-use Rattle.notification_rules.specs.Loop.{descriptorSize, descriptorPieces}
-use Rattle.notification_rules.specs.Target.{streamLocation, Location, nowhere, at, located, isLocation, orElse}
-use Rattle.notification_rules.specs.Notice.{found}
-use Rattle.notification_rules.proofs.Pieces.{descriptor-two, located-stop, located-more}
-use Rattle.notification.specs.Readers.{Behind, front, Reaches, Located, Picked}
+use Rattle.notification_rules.specs.declared.Finding.the-variants.{Found}
+use Rattle.notification_rules.specs.Cut.{fromOffset}
+use Rattle.notification_rules.specs.Loop.{descriptorSize, descriptorItems, tag}
+use Rattle.notification_rules.specs.Target.{streamLocation, Location, nowhere, somewhere, located, isLocation, orElse}
+use Rattle.notification_rules.specs.Finding.{found, known}
+use Rattle.notification_rules.proofs.Items.{descriptor-two, located-stop, located-more}
+use Rattle.notification_rules.proofs.Located.{nine-in}
+use Rattle.notification.specs.declared.location.Choice.{Choice}
+use Rattle.notification.specs.declared.location.Choice.the-variants.{Own, Platform, Neither}
+use Rattle.notification.specs.Readers.{front, Reaches, choose, choiceOf, told, Inside}
 
-front-some : (o : ℕ) (b : List ℕ) → descriptorSize b ≤ length b → front o b ≡ at (part o (take (descriptorSize b) b))
+front-some : (o : ℕ) (b : List ℕ) → descriptorSize b ≤ length b → front o b ≡ somewhere (part o (take (descriptorSize b) b))
 unfolding front
 front-some o [] h = absurd (omega (arith, descriptor-two []))
 front-some o (x ∷ b) h = refl
@@ -32,136 +35,134 @@ front-none o [] h = refl
 front-none o (x ∷ b) h = absurd (omega arith)
 
 -- ---- a loop from its first 0x13 on
-module _ (s r : RefT (List ℕ)) (n : ℕ) (e : n ≡ descriptorSize (now s)) where
-  pub reaches-end : length (now s) < n → Is (s .ptr) (part (length (now s)) (drop (length (now s)) (now s))) r → Reaches s r
+module _ (s r : List ℕ) (n : ℕ) (e : n ≡ descriptorSize s) where
+  pub reaches-end : length s < n → r ≡ drop (length s) s → Reaches s r
   unfolding front
   reaches-end h i =
-      let l : length (now s) < descriptorSize (now s) = omega arith in
-      let g : length (now s) ≤ length (now s) = omega arith in
-      let z : now r ≡ [] = i .bytes ∙ drop-of-length-le (now s) g in
+      let l : length s < descriptorSize s = omega arith in
+      let g : length s ≤ length s = omega arith in
+      let z : r ≡ [] = i ∙ drop-of-length-le s g in
       record {
-        passed = length (now s);
+        passed = length s;
         inside = g;
-        is = i;
-        first = λ o. located-stop o (now s) l ∙ sym (ap (front (length (now s) + o)) z);
+        bytes = i;
+        first = λ o. located-stop o s l ∙ sym (ap (front (length s + o)) z);
         whole = λ q. absurd (q (ap length z));
       }
 
-  pub reaches-more : n ≤ length (now s) → (byteAt (now s) 0 ≡ streamLocation → ⊥)
-      → (t : RefT (List ℕ)) → Is (s .ptr) (part n (drop n (now s))) t → Reaches t r → Reaches s r
+  pub reaches-more : n ≤ length s → (byteAt s 0 ≡ streamLocation → ⊥) → Reaches (drop n s) r → Reaches s r
   unfolding pick
-  reaches-more h q t i c =
-      let l : descriptorSize (now s) ≤ length (now s) = omega arith in
-      let k : length (now t) ≡ length (now s) - n = ap length (i .bytes) ∙ length-drop n (now s) in
+  reaches-more h q c =
+      let l : descriptorSize s ≤ length s = omega arith in
       record {
         passed = n + c .passed;
-        inside = omega (arith, c .inside);
-        is =
-            record {
-              bytes = c .is .bytes ∙ ap (λ (b : List ℕ). drop (c .passed) b) (i .bytes) ∙ drop-drop (c .passed) n (now s);
-              block = c .is .block ∙ i .block;
-              offset = omega (arith, c .is .offset, i .offset);
-            };
+        inside = omega (arith, c .inside, length-drop n s);
+        bytes = c .bytes ∙ drop-drop (c .passed) n s;
         first = λ o.
             let m : c .passed + (o + n) ≡ n + c .passed + o = omega arith in
-            rw (located-more o (now s) l, ne-eqb (byteAt (now s) 0) streamLocation q, ← e, ← i .bytes)
-            (c .first (o + n) ∙ ap (λ (j : ℕ). front j (now r)) m);
+            rw (located-more o s l, ne-eqb (byteAt s 0) streamLocation q, ← e) (c .first (o + n) ∙ ap (λ (j : ℕ). front j r) m);
         whole = c .whole;
       }
 
-pub reaches-here : (s : RefT (List ℕ)) (n : ℕ) → n ≡ descriptorSize (now s) → n ≤ length (now s) → byteAt (now s) 0 ≡ streamLocation → Reaches s s
+pub reaches-here : (s : List ℕ) (n : ℕ) → n ≡ descriptorSize s → n ≤ length s → byteAt s 0 ≡ streamLocation → Reaches s s
 unfolding pick
 reaches-here s n e h q =
-    let l : descriptorSize (now s) ≤ length (now s) = omega arith in
+    let l : descriptorSize s ≤ length s = omega arith in
     record {
       passed = 0;
       inside = omega arith;
-      is = record { bytes = refl; block = refl; offset = omega arith };
+      bytes = refl;
       first = λ o.
           let k : 0 + o ≡ o = omega arith in
-          rw (located-more o (now s) l, eq-eqb (byteAt (now s) 0) streamLocation q, k) (sym (front-some o (now s) l));
+          rw (located-more o s l, eq-eqb (byteAt s 0) streamLocation q, k) (sym (front-some o s l));
       whole = λ _. l;
     }
 
--- ---- the descriptor there
-module _ (start : ℕ × ℕ) (o n : ℕ) (s r v : RefT (List ℕ)) (e : n ≡ descriptorSize (now r)) (c : Reaches s r) where
-  pub found-none : length (now r) < n → now v ≡ [] → Located start (located (placed o (descriptorPieces (now s)))) v
-  found-none h z = rw (c .first o, front-none (c .passed + o) (now r) (empty (decLe 1 (length (now r))))) z
+module _ (s r : List ℕ) (c : Reaches s r) where
+  pub rest-inside : length r ≤ length s
+  rest-inside = omega (arith, ap length (c .bytes) ∙ length-drop (c .passed) s)
+
+  none-there : length r ≡ 0 → (o : ℕ) → located (fromOffset o (descriptorItems s)) ≡ nowhere
+  none-there z o = c .first o ∙ front-none (c .passed + o) r z
+
+  module _ (z : length r ≡ 0 → ⊥) where
+    one-there : (o : ℕ) → located (fromOffset o (descriptorItems s)) ≡ somewhere (part (c .passed + o) (take (descriptorSize r) r))
+    one-there o = c .first o ∙ front-some (c .passed + o) r (c .whole z)
+
+    -- where it stands, by what is left
+    stands-at : c .passed + 0 + 2 ≡ length s - length r + 2
+    stands-at = omega (arith, c .inside, ap length (c .bytes) ∙ length-drop (c .passed) s)
+
+  pub has-some : (o : ℕ) → not (eqb (length r) 0) ≡ isLocation (located (fromOffset o (descriptorItems s)))
+  unfolding isLocation
+  has-some o = go (decLe 1 (length r))
     where
-      empty : Dec (1 ≤ length (now r)) → length (now r) ≡ 0
-      empty (yes q) = absurd (omega (arith, c .whole (λ k. omega (arith, q, k))))
-      empty (no q) = omega arith
+      go : Dec (1 ≤ length r) → not (eqb (length r) 0) ≡ isLocation (located (fromOffset o (descriptorItems s)))
+      go (yes l) = rw (ne-eqb (length r) 0 (λ z. omega (arith, z, l)), one-there (λ z. omega (arith, z, l)) o)
+      go (no l) = let z : length r ≡ 0 = omega arith in rw (eq-eqb (length r) 0 z, none-there z o)
 
-  pub found-some : n ≤ length (now r) → Is start (part o (now s)) s → Is (r .ptr) (part 0 (take n (now r))) v
-      → Located start (located (placed o (descriptorPieces (now s)))) v
-  found-some h i j =
-      let w : length (take n (now r)) ≡ n = length-take-le n (now r) h in
-      let l : descriptorSize (now r) ≤ length (now r) = omega arith in
-      rw (c .first o, front-some (c .passed + o) (now r) l, ← e) (
-        record { bytes = j .bytes; block = j .block ∙ c .is .block ∙ i .block; offset = omega (arith, j .offset, c .is .offset, i .offset) },
-        omega (arith, descriptor-two (now r), ap length (j .bytes)),
-      )
+  -- ---- the choice, by what is left of each loop
+  pub chosen-own : (t : List ℕ) → (length r ≡ 0 → ⊥) → Own (length s - length r + 2) ≡ choiceOf s t
+  unfolding choiceOf choose
+  chosen-own t z = rw (one-there z 0, stands-at z)
 
--- ---- the body of what was located
-module _ (start : ℕ × ℕ) (r b : RefT (List ℕ)) (h : Behind r 2 b) where
-  body-of : (d : Part) → Is start d r → 2 ≤ length (now r) → Picked start (at d) b
-  body-of d i l =
-      let q = h .offset l in
-      record {
-        bytes = q .bytes ∙ ap (λ (s : List ℕ). drop 2 s) (i .bytes);
-        block = q .block ∙ i .block;
-        offset = omega (arith, q .offset, i .offset);
-      }
+module _ (s r t v : List ℕ) (c : Reaches s r) (d : Reaches t v) (z : length r ≡ 0) where
+  pub chosen-platform : (length v ≡ 0 → ⊥) → Platform (length t - length v + 2) ≡ choiceOf s t
+  unfolding choiceOf choose
+  chosen-platform y = rw (none-there s r c z 0, one-there t v d y 0, stands-at t v d y)
 
-  picked : (l : Location) → Located start l r → Picked start l b
-  picked nowhere e = h .bytes ∙ ap (λ (s : List ℕ). drop 2 s) e
-  picked (at d) i = body-of d (i .0) (i .1)
+  pub chosen-neither : length v ≡ 0 → Neither ≡ choiceOf s t
+  unfolding choiceOf choose
+  chosen-neither y = rw (none-there s r c z 0, none-there t v d y 0)
 
-  pub picked-own : (a l : Location) → Located start a r → (length (now r) ≡ 0 → ⊥) → Picked start (orElse a l) b
-  unfolding orElse
-  picked-own nowhere l e z = absurd (z (ap length e))
-  picked-own (at d) l i z = body-of d (i .0) (i .1)
+-- ---- what the choice tells of two loops, wherever they stand
+moved : ℕ → Location → Location
+moved o nowhere = nowhere
+moved o (somewhere d) = somewhere (part (o + d .offset) (d .bytes))
 
-  pub picked-other : (a l : Location) (x : RefT (List ℕ)) → Located start a x → length (now x) ≡ 0 → Located start l r
-      → Picked start (orElse a l) b
-  unfolding orElse
-  picked-other nowhere l x e z i = picked l i
-  picked-other (at d) l x e z i = absurd (omega (arith, e .1))
+located-moved : (o k : ℕ) (ds : List (List ℕ)) → located (fromOffset (o + k) ds) ≡ moved o (located (fromOffset k ds))
+unfolding located fromOffset moved pick
+located-moved o k [] = refl
+located-moved o k (d ∷ ds) =
+    let m : o + k + length d ≡ o + (k + length d) = omega arith in
+    go (eqb (tag d) streamLocation) (ap (λ (j : ℕ). located (fromOffset j ds)) m ∙ located-moved o (k + length d) ds)
+  where
+    go : (b : Bool) → located (fromOffset (o + k + length d) ds) ≡ moved o (located (fromOffset (k + length d) ds))
+        → pick b (somewhere (part (o + k) d)) (located (fromOffset (o + k + length d) ds))
+        ≡ moved o (pick b (somewhere (part k d)) (located (fromOffset (k + length d) ds)))
+    go true e = refl
+    go false e = e
 
--- ---- its place, with the end of the loop
-module _ (s r b : RefT (List ℕ)) (c : Reaches s r) (h : Behind r 2 b) where
-  lengths : (length (now r) ≡ length (now s) - c .passed) × (length (now b) ≡ length (now r) - 2)
-  lengths = (ap length (c .is .bytes) ∙ length-drop (c .passed) (now s), ap length (h .bytes) ∙ length-drop 2 (now r))
+from-zero : (o : ℕ) (s : List ℕ) → located (fromOffset o (descriptorItems s)) ≡ moved o (located (fromOffset 0 (descriptorItems s)))
+from-zero o s =
+    let m : o ≡ o + 0 = omega arith in
+    ap (λ (j : ℕ). located (fromOffset j (descriptorItems s))) m ∙ located-moved o 0 (descriptorItems s)
 
-  module _ (end : ℕ) where
-    pub place-inside : length (now s) ≤ end → length (now b) ≤ end
-    place-inside l = omega (arith, lengths)
+module _ (s t : List ℕ) (o p : ℕ) where
+  abbrev pub here : Location
+  here = orElse (located (fromOffset o (descriptorItems s))) (located (fromOffset p (descriptorItems t)))
 
-    module _ (o : ℕ) (e : o + length (now s) ≡ end) where
-      abbrev here : Location
-      here = located (placed o (descriptorPieces (now s)))
+  here-moved : here ≡ orElse (moved o (located (fromOffset 0 (descriptorItems s)))) (moved p (located (fromOffset 0 (descriptorItems t))))
+  here-moved = ap₂ orElse (from-zero o s) (from-zero p t)
 
-      module _ (z : length (now r) ≡ 0 → ⊥) where
-        here-is : here ≡ at (part (c .passed + o) (take (descriptorSize (now r)) (now r)))
-        here-is = c .first o ∙ front-some (c .passed + o) (now r) (c .whole z)
+  tells : (a b : Location) → found (orElse (moved o a) (moved p b)) ≡ told o p (choose a b)
+  unfolding found orElse moved choose
+  tells nowhere nowhere = refl
+  tells nowhere (somewhere d) = let e : p + d .offset + 2 ≡ p + (d .offset + 2) = omega arith in ap Found e
+  tells (somewhere d) b = let e : o + d .offset + 2 ≡ o + (d .offset + 2) = omega arith in ap Found e
 
-        place-is : c .passed + o + 2 ≡ end - length (now b)
-        place-is = omega (arith, lengths, c .whole z, descriptor-two (now r), c .inside)
+  pub choice-tells : found here ≡ told o p (choiceOf s t)
+  unfolding choiceOf
+  choice-tells = ap found here-moved ∙ tells (located (fromOffset 0 (descriptorItems s))) (located (fromOffset 0 (descriptorItems t)))
 
-        pub placed-own : (l : Location) → found (orElse here l) ≡ Found (end - length (now b))
-        unfolding orElse found
-        placed-own l = rw here-is (ap Found place-is)
+  module _ (ks : known s ≡ true) (kt : known t ≡ true) where
+    within : (a b : Location) → located (fromOffset 0 (descriptorItems s)) ≡ a → located (fromOffset 0 (descriptorItems t)) ≡ b
+        → isLocation (orElse (moved o a) (moved p b)) ≡ true → Inside s t (choose a b)
+    unfolding orElse moved choose isLocation
+    within nowhere nowhere ea eb h = never h
+    within nowhere (somewhere d) ea eb h = omega (arith, nine-in t d kt eb)
+    within (somewhere d) b ea eb h = omega (arith, nine-in s d ks ea)
 
-        placed-here : found here ≡ Found (end - length (now b))
-        unfolding found
-        placed-here = rw here-is (ap Found place-is)
-
-      pub placed-other : (a : Location) → a ≡ nowhere → isLocation (orElse a here) ≡ true → found (orElse a here) ≡ Found (end - length (now b))
-      unfolding orElse isLocation
-      placed-other a n t =
-          let k : isLocation here ≡ true = ap (λ (x : Location). isLocation (orElse x here)) (sym n) ∙ t in
-          ap (λ (x : Location). found (orElse x here)) n
-          ∙ placed-here (λ z. never (sym (ap isLocation (c .first o ∙ front-none (c .passed + o) (now r) z)) ∙ k))
-
-pub placed-none : (s r : RefT (List ℕ)) → Reaches s r → (o : ℕ) → length (now r) ≡ 0 → located (placed o (descriptorPieces (now s))) ≡ nowhere
-placed-none s r c o z = c .first o ∙ front-none (c .passed + o) (now r) z
+    pub choice-inside : isLocation here ≡ true → Inside s t (choiceOf s t)
+    unfolding choiceOf
+    choice-inside h = within _ _ refl refl (rw here-moved at h)

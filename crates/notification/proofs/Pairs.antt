@@ -15,14 +15,14 @@ use Rattle.wire.specs.Choice.{pick, both, either}
 use Rattle.wire.proofs.Choice.{both-right, never}
 use Rattle.rules.specs.declared.Address.{Address}
 use Rattle.wire.specs.Part.{part}
-use Rattle.notification_rules.specs.Cut.{Cut, cutOf, stop, more, isNil, any, odd, placed}
-use Rattle.notification_rules.specs.Loop.{loopSize, descriptorSize, content, Pair, pairsOf, descriptorsOf, descriptorPieces}
-use Rattle.notification_rules.specs.Target.{Location, nowhere, at, located, isLocation, isCover, coverOf, covers, hit, entrySize, entryBytes, firstPair}
+use Rattle.notification_rules.specs.Cut.{Cut, cutOf, stop, more, isNil, any, odd, fromOffset}
+use Rattle.notification_rules.specs.Loop.{loopSize, descriptorSize, content, Pair, pairsOf, descriptorsOf, descriptorItems}
+use Rattle.notification_rules.specs.Target.{Location, nowhere, somewhere, located, isLocation, isCover, coverOf, covers, hit, entrySize, entryBytes, firstPair}
 use Rattle.wire.proofs.Lists.{from}
 use Rattle.notification_rules.proofs.Cuts.{nil-true, nil-false, nil-length}
-use Rattle.notification_rules.proofs.Pieces.{loop-two, loops-stop, loops-more, stops, goes-on, descriptors-stop, descriptors-more, covered-any}
-use Rattle.notification.proofs.Faults.{drop-take}
-use Rattle.notification.specs.Readers.{loopAt, Located, Turns, pairsFrom, pairAt, answersBy, choiceAt}
+use Rattle.notification_rules.proofs.Items.{loop-two, loops-stop, loops-more, stops, goes-on, descriptors-stop, descriptors-more, covered-any}
+use Rattle.notification.proofs.Fits.{drop-take}
+use Rattle.notification.specs.Readers.{loopAt, Turns, pairsFrom, pairAt, answersBy, pairOrEnd}
 
 pub cut-here : (s : List ℕ) (o : ℕ) → o ≤ length s → o + loopSize (drop o s) ≤ length s
     → cutOf loopSize (drop o s) ≡ more (loopAt s o) (cutOf loopSize (drop (o + loopSize (drop o s)) s))
@@ -68,9 +68,9 @@ module _ (s : List ℕ) (o : ℕ) (t : Turns s o) (l : o < length s) where
     one-cut : cutOf loopSize (drop o s) ≡ more (loopAt s o) (cutOf loopSize (drop n s))
     one-cut = rw e (cut-here s o (t .inside) first-whole)
 
-    odd-rest : odd (cutOf loopSize (drop n s) .pieces) ≡ true
+    odd-rest : odd (cutOf loopSize (drop n s) .items) ≡ true
     unfolding odd
-    odd-rest = not-false (odd (cutOf loopSize (drop n s) .pieces)) (ap (λ (c : Cut). odd (c .pieces)) (sym one-cut) ∙ t .even)
+    odd-rest = not-false (odd (cutOf loopSize (drop n s) .items)) (ap (λ (c : Cut). odd (c .items)) (sym one-cut) ∙ t .even)
 
     pub second-whole : n + loopSize (drop n s) ≤ length s
     unfolding odd
@@ -80,7 +80,7 @@ module _ (s : List ℕ) (o : ℕ) (t : Turns s o) (l : o < length s) where
         go (yes h) = h
         go (no h) =
             let w = first-whole in
-            absurd (never (ap (λ (c : Cut). odd (c .pieces)) (sym (cut-none s n (omega arith) (omega arith))) ∙ odd-rest))
+            absurd (never (ap (λ (c : Cut). odd (c .items)) (sym (cut-none s n (omega arith) (omega arith))) ∙ odd-rest))
 
     module _ (m : ℕ) (f : m ≡ n + loopSize (drop n s)) where
       two-cut : cutOf loopSize (drop o s) ≡ more (loopAt s o) (more (loopAt s n) (cutOf loopSize (drop m s)))
@@ -95,7 +95,7 @@ module _ (s : List ℕ) (o : ℕ) (t : Turns s o) (l : o < length s) where
           record {
             inside = omega arith;
             full = ap (λ (c : Cut). isNil (c .left)) (sym two-cut) ∙ t .full;
-            even = not-not (odd (cutOf loopSize (drop m s) .pieces)) (ap (λ (c : Cut). odd (c .pieces)) (sym two-cut) ∙ t .even);
+            even = not-not (odd (cutOf loopSize (drop m s) .items)) (ap (λ (c : Cut). odd (c .items)) (sym two-cut) ∙ t .even);
           }
         where
           not-not : (b : Bool) → not (not b) ≡ false → b ≡ false
@@ -103,7 +103,7 @@ module _ (s : List ℕ) (o : ℕ) (t : Turns s o) (l : o < length s) where
           not-not false h = refl
 
       pairs-here : pairsFrom s o ≡ pairAt s o ∷ pairsFrom s m
-      unfolding pairsFrom pairsOf placed pairAt
+      unfolding pairsFrom pairsOf fromOffset pairAt
       pairs-here =
           let w = first-whole in
           let p : length (loopAt s o) ≡ loopSize (drop o s) = length-loopAt s o (t .inside) w in
@@ -115,25 +115,19 @@ module _ (s : List ℕ) (o : ℕ) (t : Turns s o) (l : o < length s) where
         unfolding firstPair pick
         skips z = rw (pairs-here, z)
 
-        pub hits : test (pairAt s o) ≡ true → choiceAt s o ≡ firstPair test (pairsFrom s o)
-        unfolding firstPair pick choiceAt
+        pub hits : test (pairAt s o) ≡ true → pairOrEnd s o ≡ firstPair test (pairsFrom s o)
+        unfolding firstPair pick pairOrEnd
         hits z = rw (pairs-here, z, lt-ltb o (length s) l)
 
-pub ends : (s : List ℕ) (o : ℕ) (test : Pair → Bool) → o ≤ length s → length s ≤ o → choiceAt s o ≡ firstPair test (pairsFrom s o)
-unfolding choiceAt firstPair pick pairsFrom placed pairsOf
+pub ends : (s : List ℕ) (o : ℕ) (test : Pair → Bool) → o ≤ length s → length s ≤ o → pairOrEnd s o ≡ firstPair test (pairsFrom s o)
+unfolding pairOrEnd firstPair pick pairsFrom fromOffset pairsOf
 ends s o test h g =
     rw (le-ltb o (length s) g, cut-none s o h (omega (arith, loop-two (drop o s))))
 
 -- ---- whether a pair answers, with what the code has read of it: its two loops, and whether the second has a location
-pub located-test : (start : ℕ × ℕ) (l : Location) (r : RefT (List ℕ)) → Located start l r
-    → not (eqb (length (now r)) 0) ≡ isLocation l
-unfolding isLocation
-located-test start nowhere r e = ap (λ (s : List ℕ). not (eqb (length s) 0)) e
-located-test start (at d) r i = ap not (ne-eqb (length (now r)) 0 (λ z. omega (arith, i .1, z)))
-
 module _ (device : Address) (general : Bool) (s : List ℕ) (o n : ℕ) (e : n ≡ o + loopSize (drop o s))
     (x y : List ℕ) (ex : x ≡ content (loopAt s o)) (ey : y ≡ content (loopAt s n)) (b : Bool)
-    (eb : b ≡ either (isLocation (located (placed (n + 2) (descriptorPieces y)))) general) where
+    (eb : b ≡ either (isLocation (located (fromOffset (n + 2) (descriptorItems y)))) general) where
   answers-by : (k : Bool) → isCover (coverOf device (part o (loopAt s o))) ≡ k → answersBy device general (pairAt s o) ≡ both k b
   unfolding answersBy pairAt descriptorsOf
   answers-by k h = rw (h, ← e, ← ey, ← eb)
@@ -142,9 +136,9 @@ module _ (device : Address) (general : Bool) (s : List ℕ) (o n : ℕ) (e : n �
   unfolding coverOf pick isCover
   cover-empty z = rw (← ex, nil-true x z)
 
-  cover-some : (length x ≡ 0 → ⊥) → isCover (coverOf device (part o (loopAt s o))) ≡ any (covers device) (descriptorPieces x)
+  cover-some : (length x ≡ 0 → ⊥) → isCover (coverOf device (part o (loopAt s o))) ≡ any (covers device) (descriptorItems x)
   unfolding coverOf pick descriptorsOf
-  cover-some z = rw (← ex, nil-false x (pos x z), covered-any device (o + 2) (descriptorPieces x))
+  cover-some z = rw (← ex, nil-false x (pos x z), covered-any device (o + 2) (descriptorItems x))
     where
       pos : (w : List ℕ) → (length w ≡ 0 → ⊥) → 0 < length w
       pos [] z = absurd (z refl)
@@ -154,7 +148,7 @@ module _ (device : Address) (general : Bool) (s : List ℕ) (o n : ℕ) (e : n �
   unfolding both
   answers-empty z h = answers-by true (cover-empty z) ∙ h
 
-  pub answers-some : (length x ≡ 0 → ⊥) → b ≡ true → (k : Bool) → any (covers device) (descriptorPieces x) ≡ k
+  pub answers-some : (length x ≡ 0 → ⊥) → b ≡ true → (k : Bool) → any (covers device) (descriptorItems x) ≡ k
       → answersBy device general (pairAt s o) ≡ k
   answers-some z h k a = answers-by k (cover-some z ∙ a) ∙ rw h (both-right k)
 
@@ -168,50 +162,50 @@ module _ (device : Address) (general : Bool) (s : List ℕ) (o n : ℕ) (e : n �
 
 -- ---- descriptors of a target loop
 module _ (device : Address) (s : List ℕ) (n : ℕ) (e : n ≡ descriptorSize s) where
-  pub no-descriptor : length s < n → any (covers device) (descriptorPieces s) ≡ false
+  pub no-descriptor : length s < n → any (covers device) (descriptorItems s) ≡ false
   unfolding any
-  no-descriptor h = ap (λ (c : Cut). any (covers device) (c .pieces)) (descriptors-stop s (omega arith))
+  no-descriptor h = ap (λ (c : Cut). any (covers device) (c .items)) (descriptors-stop s (omega arith))
 
-  one-descriptor : n ≤ length s → any (covers device) (descriptorPieces s)
-      ≡ pick (covers device (take n s)) true (any (covers device) (descriptorPieces (drop n s)))
+  one-descriptor : n ≤ length s → any (covers device) (descriptorItems s)
+      ≡ pick (covers device (take n s)) true (any (covers device) (descriptorItems (drop n s)))
   unfolding any
-  one-descriptor h = rw e (ap (λ (c : Cut). any (covers device) (c .pieces)) (descriptors-more s (omega arith)))
+  one-descriptor h = rw e (ap (λ (c : Cut). any (covers device) (c .items)) (descriptors-more s (omega arith)))
 
-  pub descriptor-hit : n ≤ length s → covers device (take n s) ≡ true → any (covers device) (descriptorPieces s) ≡ true
+  pub descriptor-hit : n ≤ length s → covers device (take n s) ≡ true → any (covers device) (descriptorItems s) ≡ true
   unfolding pick
   descriptor-hit h z = rw (one-descriptor h, z)
 
   pub descriptor-miss : n ≤ length s → covers device (take n s) ≡ false
-      → any (covers device) (descriptorPieces (take (length s - n) (drop n s))) ≡ any (covers device) (descriptorPieces s)
+      → any (covers device) (descriptorItems (take (length s - n) (drop n s))) ≡ any (covers device) (descriptorItems s)
   unfolding pick
   descriptor-miss h z = rw (from, one-descriptor h, z)
 
 -- ---- entries of a descriptor
 module _ (device : Address) (d a : List ℕ) (n : ℕ) (g : 0 < n) where
-  pub no-entry : length a < n → any (hit device d) (cutOf (λ _. n) a .pieces) ≡ false
+  pub no-entry : length a < n → any (hit device d) (cutOf (λ _. n) a .items) ≡ false
   unfolding any
-  no-entry h = ap (λ (c : Cut). any (hit device d) (c .pieces)) (stops (λ _. n) (λ _. g) a h)
+  no-entry h = ap (λ (c : Cut). any (hit device d) (c .items)) (stops (λ _. n) (λ _. g) a h)
 
-  one-entry : n ≤ length a → any (hit device d) (cutOf (λ _. n) a .pieces)
-      ≡ pick (hit device d (take n a)) true (any (hit device d) (cutOf (λ _. n) (drop n a) .pieces))
+  one-entry : n ≤ length a → any (hit device d) (cutOf (λ _. n) a .items)
+      ≡ pick (hit device d (take n a)) true (any (hit device d) (cutOf (λ _. n) (drop n a) .items))
   unfolding any
-  one-entry h = ap (λ (c : Cut). any (hit device d) (c .pieces)) (goes-on (λ _. n) (λ _. g) a h)
+  one-entry h = ap (λ (c : Cut). any (hit device d) (c .items)) (goes-on (λ _. n) (λ _. g) a h)
 
-  pub entry-hit : n ≤ length a → hit device d (take n a) ≡ true → any (hit device d) (cutOf (λ _. n) a .pieces) ≡ true
+  pub entry-hit : n ≤ length a → hit device d (take n a) ≡ true → any (hit device d) (cutOf (λ _. n) a .items) ≡ true
   unfolding pick
   entry-hit h z = rw (one-entry h, z)
 
   pub entry-miss : n ≤ length a → hit device d (take n a) ≡ false
-      → any (hit device d) (cutOf (λ _. n) (take (length a - n) (drop n a)) .pieces) ≡ any (hit device d) (cutOf (λ _. n) a .pieces)
+      → any (hit device d) (cutOf (λ _. n) (take (length a - n) (drop n a)) .items) ≡ any (hit device d) (cutOf (λ _. n) a .items)
   unfolding pick
   entry-miss h z = rw (from, one-entry h, z)
 
 -- what the entries say is what the descriptor says
 pub covers-by : (device : Address) (d a : List ℕ) (t n : ℕ) (k : Bool) → t ≡ byteAt d 0 → n ≡ entrySize t → a ≡ entryBytes d
-    → any (hit device d) (cutOf (λ _. n) a .pieces) ≡ k → covers device d ≡ k
+    → any (hit device d) (cutOf (λ _. n) a .items) ≡ k → covers device d ≡ k
 unfolding covers
 covers-by device d a t n k et en ea h =
-    ap₂ (λ (m : ℕ) (z : List ℕ). any (hit device d) (cutOf (λ _. m) z .pieces)) (sym (en ∙ ap entrySize et)) (sym ea) ∙ h
+    ap₂ (λ (m : ℕ) (z : List ℕ). any (hit device d) (cutOf (λ _. m) z .items)) (sym (en ∙ ap entrySize et)) (sym ea) ∙ h
 
 -- a pair that begins before the end ends before it
 pub pair-whole : (s : List ℕ) (o t p : ℕ) → Turns s o → o < length s → 2 + t ≡ loopSize (drop o s) → 2 + p ≡ loopSize (drop (o + 2 + t) s)

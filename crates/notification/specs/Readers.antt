@@ -7,40 +7,60 @@ use mathlib.Core.Option.{Option, none, some}
 use lib.ListN.{length, take, drop}
 use lib.Dec.{ltb}
 use denote.Ref.{RefT, now}
-use Rattle.wire.specs.Choice.{pick, both, either, first}
-use Rattle.rules.specs.declared.Address.{Address}
-use Rattle.notification_rules.specs.declared.Notice.the-variants.{Found}
+use Rattle.wire.specs.Choice.{pick, both, either}
 use Rattle.wire.specs.Part.{Part, part, Is}
-use Rattle.notification_rules.specs.Cut.{Cut, cutOf, isNil, every, odd, placed}
-use Rattle.notification_rules.specs.Loop.{loopSize, descriptorSize, platformPlace, content, filled, Pair, pairsOf, descriptorPieces, descriptorsOf}
-use Rattle.notification_rules.specs.Target.{isCover, coverOf, Location, nowhere, at, located, isLocation, orElse, firstPair}
-use Rattle.notification_rules.specs.Notice.{known, found}
+use Rattle.rules.specs.declared.Address.{Address}
+use Rattle.notification_rules.specs.declared.Finding.{Finding}
+use Rattle.notification_rules.specs.declared.Finding.the-variants.{Found, Nobody, Refused}
+use Rattle.notification_rules.specs.Cut.{Cut, cutOf, isNil, every, odd, fromOffset}
+use Rattle.rules.specs.Section.{checked}
+use Rattle.notification_rules.specs.Loop.{loopSize, descriptorSize, platformOffset, content, filled, Pair, pairsOf, descriptorItems, descriptorsOf}
+use Rattle.notification_rules.specs.Target.{isCover, coverOf, rightLength, Location, nowhere, somewhere, located, isLocation, firstPair}
+use Rattle.notification_rules.specs.Finding.{known, findingOf}
+use Rattle.notification.specs.declared.loops.Fit.{Fit}
+use Rattle.notification.specs.declared.loops.Fit.the-variants.{Exact, OtherLength, Misfit}
+use Rattle.notification.specs.declared.location.Choice.{Choice}
+use Rattle.notification.specs.declared.location.Choice.the-variants.{Own, Platform, Neither}
+use Rattle.notification.specs.declared.Sought.{Sought}
+use Rattle.notification.specs.declared.Sought.the-variants.{Refusal, NoPair, PairAt}
 
--- 32 where descriptors do not fill a loop, else 33 where a known one has another length, here or before, else 0
-unfoldable pub descriptorFault : List ℕ → Bool → ℕ
-descriptorFault b other = first (not (filled b)) 32 (first (either other (not (known b))) 33 0)
+-- ---- how loops and descriptors fill bytes
+-- misfit where they do not fill them exactly, else another length where a known descriptor has one
+unfoldable pub fitOf : Bool → Bool → Fit
+fitOf fills right = pick fills (pick right Exact OtherLength) Misfit
+
+unfoldable pub worse : Fit → Fit → Fit
+worse Exact y = y
+worse OtherLength Exact = OtherLength
+worse OtherLength OtherLength = OtherLength
+worse OtherLength Misfit = Misfit
+worse Misfit y = Misfit
+
+-- one descriptor with this tag and n bytes
+unfoldable pub lengthFit : ℕ → ℕ → Fit
+lengthFit t n = fitOf true (rightLength t n)
+
+unfoldable pub descriptorFit : List ℕ → Fit
+descriptorFit b = fitOf (filled b) (known b)
 
 -- loops that fill exactly; the first is a target loop where `turn` is false, so that they are even in number
 unfoldable pub fitsBy : Bool → Cut → Bool
-fitsBy turn c = both (isNil (c .left)) (both (pick turn (odd (c .pieces)) (not (odd (c .pieces))))
-    (every (λ l. filled (content l)) (c .pieces)))
+fitsBy turn c = both (isNil (c .left)) (both (pick turn (odd (c .items)) (not (odd (c .items))))
+    (every (λ l. filled (content l)) (c .items)))
 
--- 32 where loops by turns do not fill exactly, else 33 where a known descriptor has another length, here or before, else 0
-unfoldable pub loopFault : Bool → List ℕ → Bool → ℕ
-loopFault turn s other =
-    first (not (fitsBy turn (cutOf loopSize s))) 32 (first
-    (either other (not (every (λ l. known (content l)) (cutOf loopSize s .pieces)))) 33 0)
+unfoldable pub loopFit : Bool → List ℕ → Fit
+loopFit turn s = fitOf (fitsBy turn (cutOf loopSize s)) (every (λ l. known (content l)) (cutOf loopSize s .items))
 
 -- ---- a slice without its first k bytes
-pub record Behind (s : RefT (List ℕ)) (k : ℕ) (r : RefT (List ℕ)) : Type 0 where
+pub record After (s : RefT (List ℕ)) (k : ℕ) (r : RefT (List ℕ)) : Type 0 where
   pub bytes : now r ≡ drop k (now s)
   pub offset : k ≤ length (now s) → Is (s .ptr) (part k (drop k (now s))) r
 
--- ---- a loop at a place
+-- ---- a loop at an offset
 unfoldable pub loopAt : List ℕ → ℕ → List ℕ
 loopAt s o = take (loopSize (drop o s)) (drop o s)
 
--- what a loop at a place holds
+-- what a loop at an offset holds
 pub record Holds (s : RefT (List ℕ)) (o : ℕ) (r : RefT (List ℕ)) : Type 0 where
   pub is : Is (s .ptr) (part (o + 2) (content (loopAt (now s) o))) r
   pub size : 2 + length (now r) ≡ loopSize (drop o (now s))
@@ -49,54 +69,62 @@ pub record Holds (s : RefT (List ℕ)) (o : ℕ) (r : RefT (List ℕ)) : Type 0 
 -- the descriptor at the front, or nowhere where nothing stands
 unfoldable pub front : ℕ → List ℕ → Location
 front o [] = nowhere
-front o (x ∷ b) = at (part o (take (descriptorSize (x ∷ b)) (x ∷ b)))
+front o (x ∷ b) = somewhere (part o (take (descriptorSize (x ∷ b)) (x ∷ b)))
 
--- r is the loop s from its first 0x13 on, or nothing, wherever the loop stands
-pub record Reaches (s r : RefT (List ℕ)) : Type 0 where
+-- r is what the loop s holds from its first 0x13 on, or nothing, wherever the loop stands
+pub record Reaches (s r : List ℕ) : Type 0 where
   pub passed : ℕ
-  pub inside : passed ≤ length (now s)
-  pub is : Is (s .ptr) (part passed (drop passed (now s))) r
-  pub first : (o : ℕ) → located (placed o (descriptorPieces (now s))) ≡ front (passed + o) (now r)
-  pub whole : (length (now r) ≡ 0 → ⊥) → descriptorSize (now r) ≤ length (now r)
+  pub inside : passed ≤ length s
+  pub bytes : r ≡ drop passed s
+  pub first : (o : ℕ) → located (fromOffset o (descriptorItems s)) ≡ front (passed + o) r
+  pub whole : (length r ≡ 0 → ⊥) → descriptorSize r ≤ length r
 
--- the located descriptor of a loop, tag and length with it, or nothing
-abbrev pub Located : ℕ × ℕ → Location → RefT (List ℕ) → Type 0
-Located start nowhere r = now r ≡ []
-Located start (at d) r = Is start d r × (2 ≤ length (now r))
+-- whether there is one, wherever the loop stands
+abbrev pub Has : List ℕ → Bool → Type 0
+Has s r = (o : ℕ) → r ≡ isLocation (located (fromOffset o (descriptorItems s)))
 
--- r is the first 0x13 of the loop s, wherever in a section the loop stands
-abbrev pub Locates : RefT (List ℕ) → RefT (List ℕ) → Type 0
-Locates s r =
-    (start : ℕ × ℕ) → (o : ℕ) → Is start (part o (now s)) s → Located start (located (placed o (descriptorPieces (now s)))) r
+-- ---- the choice of a location
+-- the first loop's goes first; the nine bytes stand after tag and length
+unfoldable pub choose : Location → Location → Choice
+choose (somewhere d) l = Own (d .offset + 2)
+choose nowhere (somewhere d) = Platform (d .offset + 2)
+choose nowhere nowhere = Neither
 
--- its body
-abbrev pub Picked : ℕ × ℕ → Location → RefT (List ℕ) → Type 0
-Picked start nowhere r = now r ≡ []
-Picked start (at d) r = Is start (part (d .offset + 2) (drop 2 (d .bytes))) r
+-- of what two loops hold, counted from its first byte
+unfoldable pub choiceOf : List ℕ → List ℕ → Choice
+choiceOf s t = choose (located (fromOffset 0 (descriptorItems s))) (located (fromOffset 0 (descriptorItems t)))
 
--- the first 0x13 of the one loop, else of the other, with the places of what they hold
-abbrev pub pickIn : List ℕ → ℕ → List ℕ → ℕ → Location
-pickIn s o t p = orElse (located (placed o (descriptorPieces s))) (located (placed p (descriptorPieces t)))
+-- what it tells where the one begins at o and the other at p
+abbrev pub told : ℕ → ℕ → Choice → Finding
+told o p (Own k) = Found (o + k)
+told o p (Platform k) = Found (p + k)
+told o p Neither = Nobody
 
--- r is its body, wherever in a section the two stand
-abbrev pub Picks : RefT (List ℕ) → RefT (List ℕ) → RefT (List ℕ) → Type 0
-Picks s t r =
-    (start : ℕ × ℕ) → (o p : ℕ) → Is start (part o (now s)) s → Is start (part p (now t)) t → Picked start (pickIn (now s) o (now t) p) r
+-- nine bytes stand there
+abbrev pub Inside : List ℕ → List ℕ → Choice → Type 0
+Inside s t (Own k) = k + 9 ≤ length s
+Inside s t (Platform k) = k + 9 ≤ length t
+Inside s t Neither = ⊥
 
--- r is the place of its body, where there is one and the two end at these places
-abbrev pub Places : List ℕ → ℕ → List ℕ → ℕ → ℕ → Type 0
-Places s end t last r =
-    (o p : ℕ) → o + length s ≡ end → p + length t ≡ last → isLocation (pickIn s o t p) ≡ true → found (pickIn s o t p) ≡ Found r
+-- r is the nine bytes of s from k on, where they stand there
+abbrev pub Nine : RefT (List ℕ) → ℕ → RefT (List ℕ) → Type 0
+Nine s k r = k + 9 ≤ length (now s) → Is (s .ptr) (part k (take 9 (drop k (now s)))) r
 
--- ---- pairs from a place on
+-- r is the nine bytes that were chosen
+abbrev pub Picked : RefT (List ℕ) → RefT (List ℕ) → Choice → RefT (List ℕ) → Type 0
+Picked s t (Own k) r = Nine s k r
+Picked s t (Platform k) r = Nine t k r
+Picked s t Neither r = now r ≡ []
+
+-- ---- pairs from an offset on
 -- whole pairs stand from here on to the end
 pub record Turns (s : List ℕ) (o : ℕ) : Type 0 where
   pub inside : o ≤ length s
   pub full : isNil (cutOf loopSize (drop o s) .left) ≡ true
-  pub even : odd (cutOf loopSize (drop o s) .pieces) ≡ false
+  pub even : odd (cutOf loopSize (drop o s) .items) ≡ false
 
 unfoldable pub pairsFrom : List ℕ → ℕ → List Pair
-pairsFrom s o = pairsOf (placed o (cutOf loopSize (drop o s) .pieces))
+pairsFrom s o = pairsOf (fromOffset o (cutOf loopSize (drop o s) .items))
 
 unfoldable pub pairAt : List ℕ → ℕ → Pair
 pairAt s o =
@@ -110,27 +138,48 @@ unfoldable pub answersBy : Address → Bool → Pair → Bool
 answersBy device general x =
     both (isCover (coverOf device (x .target))) (either (isLocation (located (descriptorsOf (x .operational)))) general)
 
--- the pair at a place, or none at the end
-unfoldable pub choiceAt : List ℕ → ℕ → Option Pair
-choiceAt s o = pick (ltb o (length s)) (some (pairAt s o)) none
+-- the pair at an offset, or none at the end
+unfoldable pub pairOrEnd : List ℕ → ℕ → Option Pair
+pairOrEnd s o = pick (ltb o (length s)) (some (pairAt s o)) none
 
--- r is the place of the first pair from o on that answers, or the end
-pub record Chosen (device : Address) (general : Bool) (s : List ℕ) (o r : ℕ) : Type 0 where
-  pub first : choiceAt s r ≡ firstPair (answersBy device general) (pairsFrom s o)
+-- the search from o on stops at r, the first pair that answers, or at the end
+pub record StopsAt (device : Address) (general : Bool) (s : List ℕ) (o r : ℕ) : Type 0 where
+  pub first : pairOrEnd s r ≡ firstPair (answersBy device general) (pairsFrom s o)
   pub turns : Turns s r
 
 -- ---- what stands before the CRC_32 of a section that is not refused
 abbrev pub platformAt : List ℕ → Part
-platformAt h = part platformPlace (loopAt h platformPlace)
+platformAt h = part platformOffset (loopAt h platformOffset)
 
-abbrev pub pairsPlace : List ℕ → ℕ
-pairsPlace h = platformPlace + loopSize (drop platformPlace h)
+abbrev pub pairsOffset : List ℕ → ℕ
+pairsOffset h = platformOffset + loopSize (drop platformOffset h)
 
 -- a platform loop, and whole pairs up to the end
 pub record Looped (h : List ℕ) : Type 0 where
-  pub platform : pairsPlace h ≤ length h
-  pub pairs : Turns h (pairsPlace h)
+  pub platform : pairsOffset h ≤ length h
+  pub pairs : Turns h (pairsOffset h)
 
--- r is the place of the first pair that answers, or the end
-abbrev pub Answering : Address → List ℕ → ℕ → Type 0
-Answering device h r = Chosen device (isLocation (located (descriptorsOf (platformAt h)))) h (pairsPlace h) r
+-- the choice of the pair whose operational loop stands at o
+abbrev pub choiceAt : List ℕ → ℕ → Choice
+choiceAt h o = choiceOf (content (loopAt h o)) (content (loopAt h platformOffset))
+
+-- what it tells, in the section
+abbrev pub toldAt : List ℕ → ℕ → Finding
+toldAt h o = told (o + 2) (platformOffset + 2) (choiceAt h o)
+
+-- both loops are there, and one of them has a location, whose nine bytes are there
+pub record Locates (h : List ℕ) (o : ℕ) : Type 0 where
+  pub platform : pairsOffset h ≤ length h
+  pub operational : o + loopSize (drop o h) ≤ length h
+  pub inside : Inside (content (loopAt h o)) (content (loopAt h platformOffset)) (choiceAt h o)
+
+-- ---- what the one search gives
+-- of s, and h before its CRC_32: the pair whose operational loop stands at o answers the device
+pub record Answers (device : Address) (s h : List ℕ) (o : ℕ) : Type 0 where
+  pub locates : Locates h o
+  pub told : findingOf device s ≡ toldAt h o
+
+abbrev pub Finds : Address → List ℕ → Sought → Type 0
+Finds device s (Refusal n) = findingOf device s ≡ Refused n
+Finds device s NoPair = findingOf device s ≡ Nobody
+Finds device s (PairAt o) = Answers device s (checked s) o

@@ -3,16 +3,19 @@ mod location;
 mod loops;
 mod target;
 
-use location::location;
+use location::Choice;
+use location::choose;
+use location::has_location;
 use location::pick;
-use location::pick_place;
-use loops::behind;
+use loops::Fit;
+use loops::after;
 use loops::descriptor_size;
 use loops::loop_size;
 use loops::operational_loop;
-use notification_rules::Notice;
+use notification_rules::Finding;
 use rules::Address;
 use rules::Form;
+use section_fields::checked;
 use target::entry_bytes;
 use target::entry_size;
 use target::hit;
@@ -23,10 +26,10 @@ ghost use mathlib.Core.Path.{_≡_};
 ghost use Prim.Native.Nat.{_+_, _≤_};
 ghost use lib.ListN.{length, drop};
 ghost use Rattle.wire.specs.Choice.{firstOf};
-ghost use Rattle.wire.specs.Part.{part, Is};
-ghost use Rattle.notification_rules.specs.Loop.{loopSize, checked};
-ghost use Rattle.notification_rules.specs.Notice.{notificationForm, otherAction, wrongHash, platformLines, refusal, noticeOf, Answered};
-ghost use Rattle.notification.specs.Readers.{Holds, Turns, Chosen, Looped, Answering};
+ghost use Rattle.notification_rules.specs.declared.Finding.the-variants.{Found};
+ghost use Rattle.notification_rules.specs.Loop.{loopSize};
+ghost use Rattle.notification_rules.specs.Finding.{notificationForm, otherAction, wrongHash, platformLines, loopLines, refusal, findingOf, Answered};
+ghost use Rattle.notification.specs.Readers.{Holds, Turns, StopsAt, Finds, Locates, toldAt};
 
 fn notification_form() -> Form
     ensures { λ r. ⌜ r ≡ notificationForm ⌝ }
@@ -57,17 +60,18 @@ fn platform_refusal(s: &[u8]) -> u8
     first(other_action(s), 30, first(wrong_hash(s), 31, 0))
 }
 
-// What stands before the CRC_32; nothing in a slice that is shorter than it.
-fn checked<'a>(s: &'a [u8]) -> &'a [u8]
-    ensures { λ r. ⌜ Is (s .entry .ptr) (part 0 (checked (now (s .entry)))) r ⌝ }
+// The first of 32 and 33 that applies, else 0. The platform loop is read as an operational loop is.
+fn loops_refusal(s: &[u8]) -> u8
+    ensures { λ r. ⌜ r ≡ firstOf (loopLines (now (s .entry))) ⌝ }
 {
-    if s.len() < 4 {
-        return &s[..0];
+    match operational_loop(after(checked(s), 12), Fit::Exact) {
+        Fit::Misfit => 32,
+        Fit::OtherLength => 33,
+        Fit::Exact => 0,
     }
-    &s[..s.len() - 4]
 }
 
-// The first of 12 to 18 and 30 to 33 that applies, else 0. The platform loop is read as an operational loop is.
+// The first of 12 to 18 and 30 to 33 that applies, else 0.
 fn refusal(s: &[u8]) -> u8
     ensures { λ r. ⌜ r ≡ refusal (now (s .entry)) ⌝ }
 {
@@ -79,28 +83,28 @@ fn refusal(s: &[u8]) -> u8
     if platform != 0 {
         return platform;
     }
-    operational_loop(behind(checked(s), 12), false)
+    loops_refusal(s)
 }
 
-// What the loop at a place holds.
-fn loop_at<'a>(s: &'a [u8], at: usize) -> &'a [u8]
-    requires { ⌜ at + loopSize (drop at (now s)) ≤ length (now s) ⌝ }
-    ensures { λ r. ⌜ Holds (s .entry) at r ⌝ }
+// What the loop at an offset holds.
+fn loop_at<'a>(s: &'a [u8], offset: usize) -> &'a [u8]
+    requires { ⌜ offset + loopSize (drop offset (now s)) ≤ length (now s) ⌝ }
+    ensures { λ r. ⌜ Holds (s .entry) offset r ⌝ }
 {
-    let size = loop_size(&s[at..]);
-    &s[at + 2..at + size]
+    let size = loop_size(&s[offset..]);
+    &s[offset + 2..offset + size]
 }
 
-// The place of the first pair that covers the device and has a location, or the end; `general` says that the platform loop has one.
+// The offset of the first pair that covers the device and has a location, or the end; `general` says that the platform loop has one.
 fn search(device: Address, s: &[u8], from: usize, general: bool) -> usize
     requires { ⌜ Turns (now s) from ⌝ }
-    ensures { λ r. ⌜ Chosen device general (now (s .entry)) from r ⌝ }
+    ensures { λ r. ⌜ StopsAt device general (now (s .entry)) from r ⌝ }
 {
-    let mut at = from;
-    'pairs: while at < s.len() {
-        let target = loop_at(s, at);
-        let operational = loop_at(s, at + 2 + target.len());
-        if either(location(operational).len() != 0, general) {
+    let mut offset = from;
+    'pairs: while offset < s.len() {
+        let target = loop_at(s, offset);
+        let operational = loop_at(s, offset + 2 + target.len());
+        if either(has_location(operational), general) {
             if target.len() == 0 {
                 break 'pairs;
             }
@@ -122,59 +126,78 @@ fn search(device: Address, s: &[u8], from: usize, general: bool) -> usize
                 rest = &rest[size..];
             }
         }
-        at = at + 4 + target.len() + operational.len();
+        offset = offset + 4 + target.len() + operational.len();
     }
-    at
+    offset
 }
 
-// The place of the first pair that answers the device, or the end.
-fn answering(device: Address, head: &[u8]) -> usize
-    requires { ⌜ Looped (now head) ⌝ }
-    ensures { λ r. ⌜ Answering device (now (head .entry)) r ⌝ }
+// What the search gives: a refusal, no pair that answers, or the offset of the operational loop of the first that does.
+enum Sought {
+    Refusal(u8),
+    NoPair,
+    PairAt(usize),
+}
+
+// The one search.
+fn find(device: Address, s: &[u8]) -> Sought
+    ensures { λ r. ⌜ Finds device (now (s .entry)) r ⌝ }
 {
+    let number = refusal(s);
+    if number != 0 {
+        return Sought::Refusal(number);
+    }
+    let head = checked(s);
     let platform = loop_at(head, 12);
-    let general = location(platform).len() != 0;
-    search(device, head, 14 + platform.len(), general)
+    let pair = search(device, head, 14 + platform.len(), has_location(platform));
+    if pair == head.len() {
+        return Sought::NoPair;
+    }
+    let target = loop_at(head, pair);
+    Sought::PairAt(pair + 2 + target.len())
 }
 
 // What the device finds: the number goes through `answer`, and with 3 the nine bytes are handed back, which are a part of the section.
 pub fn read<'a>(device: Address, s: &'a [u8], answer: &mut u8) -> &'a [u8]
     ensures { λ r. ⌜ Answered device (s .entry) (now (answer .exit)) r ⌝ }
 {
-    let number = refusal(s);
-    if number != 0 {
-        *answer = number;
-        return &s[..0];
+    match find(device, s) {
+        Sought::Refusal(number) => {
+            *answer = number;
+            &s[..0]
+        }
+        Sought::NoPair => {
+            *answer = 4;
+            &s[..0]
+        }
+        Sought::PairAt(pair) => {
+            *answer = 3;
+            let head = checked(s);
+            let operational = loop_at(head, pair);
+            pick(operational, loop_at(head, 12))
+        }
     }
-    let head = checked(s);
-    let at = answering(device, head);
-    if at == head.len() {
-        *answer = 4;
-        return &s[..0];
-    }
-    *answer = 3;
-    let platform = loop_at(head, 12);
-    let target = loop_at(head, at);
-    pick(loop_at(head, at + 2 + target.len()), platform)
 }
 
-// The same, with the place of the nine bytes: for callers to whom no part can be handed back.
-pub fn notice(device: Address, s: &[u8]) -> Notice
-    ensures { λ r. ⌜ r ≡ noticeOf device (now (s .entry)) ⌝ }
+// The offset of the nine bytes of the pair whose operational loop stands at `pair`. It has a location, so that one of the loops is chosen.
+fn nine_offset(head: &[u8], pair: usize) -> usize
+    requires { ⌜ Locates (now head) pair ⌝ }
+    ensures { λ r. ⌜ toldAt (now (head .entry)) pair ≡ Found r ⌝ }
 {
-    let number = refusal(s);
-    if number != 0 {
-        return Notice::Refused(number);
+    let operational = loop_at(head, pair);
+    match choose(operational, loop_at(head, 12)) {
+        Choice::Own(offset) => pair + 2 + offset,
+        Choice::Platform(offset) => 14 + offset,
+        Choice::Neither => 0,
     }
-    let head = checked(s);
-    let at = answering(device, head);
-    if at == head.len() {
-        return Notice::Nobody;
+}
+
+// The same, with the offset of the nine bytes: for callers to whom no part can be handed back.
+pub fn finding(device: Address, s: &[u8]) -> Finding
+    ensures { λ r. ⌜ r ≡ findingOf device (now (s .entry)) ⌝ }
+{
+    match find(device, s) {
+        Sought::Refusal(number) => Finding::Refused(number),
+        Sought::NoPair => Finding::Nobody,
+        Sought::PairAt(pair) => Finding::Found(nine_offset(checked(s), pair)),
     }
-    let platform = loop_at(head, 12);
-    let target = loop_at(head, at);
-    let operational = loop_at(head, at + 2 + target.len());
-    let end = at + 4 + target.len() + operational.len();
-    let begin = pick_place(operational, end, platform, 14 + platform.len());
-    Notice::Found(begin)
 }

@@ -1,14 +1,20 @@
 // Where a pair's streams are (EN 301 192, table 32): the first 0x13 of its operational loop, else the first of the platform loop.
-use crate::loops::behind;
+use crate::loops::after;
 use crate::loops::descriptor_size;
 use wire::byte_at;
-ghost use Prim.Native.Nat.{_≤_};
-ghost use lib.ListN.{length};
-ghost use Rattle.notification.specs.Readers.{Reaches, Locates, Picks, Places};
+ghost use mathlib.Core.Path.{_≡_};
+ghost use Rattle.notification.specs.Readers.{Reaches, Has, choiceOf, Nine, Picked};
+
+// Which of two loops has the location, and where in what it holds the nine bytes begin.
+pub enum Choice {
+    Own(usize),
+    Platform(usize),
+    Neither,
+}
 
 // A loop from its first 0x13 on, or nothing.
 fn from_location<'a>(s: &'a [u8]) -> &'a [u8]
-    ensures { λ r. ⌜ Reaches (s .entry) r ⌝ }
+    ensures { λ r. ⌜ Reaches (now (s .entry)) (now r) ⌝ }
 {
     let size = descriptor_size(s);
     if s.len() < size {
@@ -20,37 +26,45 @@ fn from_location<'a>(s: &'a [u8]) -> &'a [u8]
     from_location(&s[size..])
 }
 
-// The first 0x13 of a loop, tag and length with it, or nothing; wherever in a section the loop stands.
-pub fn location<'a>(s: &'a [u8]) -> &'a [u8]
-    ensures { λ r. ⌜ Locates (s .entry) r ⌝ }
+pub fn has_location(s: &[u8]) -> bool
+    ensures { λ r. ⌜ Has (now (s .entry)) r ⌝ }
 {
-    let rest = from_location(s);
-    let size = descriptor_size(rest);
-    if rest.len() < size {
-        return &rest[..0];
+    from_location(s).len() != 0
+}
+
+// The choice of a pair's location. The nine bytes stand after tag and length.
+pub fn choose(operational: &[u8], platform: &[u8]) -> Choice
+    ensures { λ r. ⌜ r ≡ choiceOf (now (operational .entry)) (now (platform .entry)) ⌝ }
+{
+    let own = from_location(operational);
+    if own.len() != 0 {
+        return Choice::Own(operational.len() - own.len() + 2);
     }
-    &rest[..size]
+    let general = from_location(platform);
+    if general.len() != 0 {
+        return Choice::Platform(platform.len() - general.len() + 2);
+    }
+    Choice::Neither
+}
+
+// Nine bytes from an offset on; nothing where there are not as many.
+fn nine<'a>(s: &'a [u8], offset: usize) -> &'a [u8]
+    ensures { λ r. ⌜ Nine (s .entry) offset r ⌝ }
+{
+    let rest = after(s, offset);
+    if rest.len() < 9 {
+        return &s[..0];
+    }
+    &rest[..9]
 }
 
 // The nine bytes of the one loop or the other.
 pub fn pick<'a>(operational: &'a [u8], platform: &'a [u8]) -> &'a [u8]
-    ensures { λ r. ⌜ Picks (operational .entry) (platform .entry) r ⌝ }
+    ensures { λ r. ⌜ Picked (operational .entry) (platform .entry) (choiceOf (now (operational .entry)) (now (platform .entry))) r ⌝ }
 {
-    let own = location(operational);
-    if own.len() != 0 {
-        return behind(own, 2);
+    match choose(operational, platform) {
+        Choice::Own(offset) => nine(operational, offset),
+        Choice::Platform(offset) => nine(platform, offset),
+        Choice::Neither => &operational[..0],
     }
-    behind(location(platform), 2)
-}
-
-// The place of those nine bytes: `end` is where the one loop ends in the section, `last` where the other does.
-pub fn pick_place(operational: &[u8], end: usize, platform: &[u8], last: usize) -> usize
-    requires { ⌜ (length (now operational) ≤ end) × (length (now platform) ≤ last) ⌝ }
-    ensures { λ r. ⌜ Places (now (operational .entry)) end (now (platform .entry)) last r ⌝ }
-{
-    let own = from_location(operational);
-    if own.len() != 0 {
-        return end - behind(own, 2).len();
-    }
-    last - behind(from_location(platform), 2).len()
 }

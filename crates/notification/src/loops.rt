@@ -1,13 +1,19 @@
 // The loops of an INT section (EN 301 192, tables 13 and 16 to 18): whether they and their descriptors fill it exactly.
 use wire::byte_at;
-use wire::either;
-use wire::first;
 ghost use mathlib.Core.Bool.{true, false};
 ghost use mathlib.Core.Path.{_≡_};
 ghost use Rattle.wire.specs.Bytes.{Reads};
 ghost use Rattle.notification_rules.specs.Loop.{loopSize, descriptorSize};
 ghost use Rattle.notification_rules.specs.Target.{rightLength};
-ghost use Rattle.notification.specs.Readers.{descriptorFault, loopFault, Behind};
+ghost use Rattle.notification.specs.Readers.{worse, lengthFit, descriptorFit, loopFit, After};
+
+// How loops and descriptors fill bytes: exactly, with a known descriptor of another length (33), or not exactly (32). Each is worse than
+// the one before it.
+pub enum Fit {
+    Exact,
+    OtherLength,
+    Misfit,
+}
 
 // The bytes that the loop at the front takes.
 pub fn loop_size(s: &[u8]) -> usize
@@ -39,57 +45,63 @@ fn right_length(tag: u8, n: u8) -> bool
     true
 }
 
-// Descriptors up to the end of a loop; `other` says that a known one before had another length.
-fn descriptor_loop(s: &[u8], other: bool) -> u8
-    ensures { λ r. ⌜ r ≡ descriptorFault (now (s .entry)) other ⌝ }
+// How the bytes fit that were told, with one more descriptor: this tag, and n bytes.
+fn with_descriptor(fit: Fit, tag: u8, n: u8) -> Fit
+    ensures { λ r. ⌜ r ≡ worse fit (lengthFit tag n) ⌝ }
+{
+    if right_length(tag, n) {
+        return fit;
+    }
+    match fit {
+        Fit::Exact => Fit::OtherLength,
+        Fit::OtherLength => Fit::OtherLength,
+        Fit::Misfit => Fit::Misfit,
+    }
+}
+
+// Descriptors up to the end of a loop, whose bytes before fit as told.
+fn descriptor_loop(s: &[u8], fit: Fit) -> Fit
+    ensures { λ r. ⌜ r ≡ worse fit (descriptorFit (now (s .entry))) ⌝ }
 {
     if s.len() == 0 {
-        return first(other, 33, 0);
+        return fit;
     }
     let size = descriptor_size(s);
     if s.len() < size {
-        return 32;
+        return Fit::Misfit;
     }
-    let right = right_length(byte_at(s, 0), byte_at(s, 1));
-    descriptor_loop(&s[size..], either(other, !right))
+    let next = with_descriptor(fit, byte_at(s, 0), byte_at(s, 1));
+    descriptor_loop(&s[size..], next)
 }
 
 // A target loop and what follows it, up to the end.
-fn target_loop(s: &[u8], other: bool) -> u8
-    ensures { λ r. ⌜ r ≡ loopFault false (now (s .entry)) other ⌝ }
+fn target_loop(s: &[u8], fit: Fit) -> Fit
+    ensures { λ r. ⌜ r ≡ worse fit (loopFit false (now (s .entry))) ⌝ }
 {
     if s.len() == 0 {
-        return first(other, 33, 0);
+        return fit;
     }
     let size = loop_size(s);
     if s.len() < size {
-        return 32;
+        return Fit::Misfit;
     }
-    let target = descriptor_loop(&s[2..size], other);
-    if target == 32 {
-        return target;
-    }
-    operational_loop(&s[size..], target == 33)
+    operational_loop(&s[size..], descriptor_loop(&s[2..size], fit))
 }
 
 // An operational loop, which has to be there, and what follows it; the platform loop is read in the same way.
-pub fn operational_loop(s: &[u8], other: bool) -> u8
-    ensures { λ r. ⌜ r ≡ loopFault true (now (s .entry)) other ⌝ }
+pub fn operational_loop(s: &[u8], fit: Fit) -> Fit
+    ensures { λ r. ⌜ r ≡ worse fit (loopFit true (now (s .entry))) ⌝ }
 {
     let size = loop_size(s);
     if s.len() < size {
-        return 32;
+        return Fit::Misfit;
     }
-    let operational = descriptor_loop(&s[2..size], other);
-    if operational == 32 {
-        return operational;
-    }
-    target_loop(&s[size..], operational == 33)
+    target_loop(&s[size..], descriptor_loop(&s[2..size], fit))
 }
 
-// What stands behind the first k bytes; nothing where there are not as many.
-pub fn behind<'a>(s: &'a [u8], k: usize) -> &'a [u8]
-    ensures { λ r. ⌜ Behind (s .entry) k r ⌝ }
+// What stands after the first k bytes; nothing where there are not as many.
+pub fn after<'a>(s: &'a [u8], k: usize) -> &'a [u8]
+    ensures { λ r. ⌜ After (s .entry) k r ⌝ }
 {
     if s.len() < k {
         return &s[..0];

@@ -1,5 +1,5 @@
 // The descriptors of a target loop (EN 301 192, tables 24 and 25): whether one of their entries covers a device.
-use crate::loops::behind;
+use crate::loops::after;
 use rules::Address;
 use wire::both;
 use wire::byte_at;
@@ -54,10 +54,10 @@ pub fn entry_bytes<'a>(d: &'a [u8]) -> &'a [u8]
 {
     let tag = byte_at(d, 0);
     if tag == 0x07 {
-        return behind(d, 8);
+        return after(d, 8);
     }
     if tag == 0x0e {
-        return behind(d, 2);
+        return after(d, 2);
     }
     &d[..0]
 }
@@ -67,7 +67,7 @@ pub fn hit(device: Address, d: &[u8], e: &[u8]) -> bool
     ensures { λ r. ⌜ r ≡ hit device (now (d .entry)) (now (e .entry)) ⌝ }
 {
     if byte_at(d, 0) == 0x07 {
-        return same_under(device, behind(d, 2), e);
+        return same_under(device, after(d, 2), e);
     }
     in_range(device, e)
 }

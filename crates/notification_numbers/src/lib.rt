@@ -1,26 +1,26 @@
-// The paper's numbers of the INT reader's answers, and the place that goes with each.
-use notification_rules::Notice;
+// The paper's numbers of the INT reader's answers, and the offset that goes with each.
+use notification_rules::Finding;
 ghost use mathlib.Core.Path.{_≡_};
-ghost use Rattle.notification_rules.specs.Notice.{noticeNumber, noticePlace};
+ghost use Rattle.notification_rules.specs.Finding.{findingNumber, findingOffset};
 
 // The number of the INT reader's answer.
-pub fn notice_number(notice: Notice) -> u8
-    ensures { λ r. ⌜ r ≡ noticeNumber notice ⌝ }
+pub fn finding_number(finding: Finding) -> u8
+    ensures { λ r. ⌜ r ≡ findingNumber finding ⌝ }
 {
-    match notice {
-        Notice::Found(_) => 3,
-        Notice::Nobody => 4,
-        Notice::Refused(number) => number,
+    match finding {
+        Finding::Found(_) => 3,
+        Finding::Nobody => 4,
+        Finding::Refused(number) => number,
     }
 }
 
-// The place that the INT reader's answer carries.
-pub fn notice_place(notice: Notice) -> usize
-    ensures { λ r. ⌜ r ≡ noticePlace notice ⌝ }
+// The offset that the INT reader's answer carries.
+pub fn finding_offset(finding: Finding) -> usize
+    ensures { λ r. ⌜ r ≡ findingOffset finding ⌝ }
 {
-    match notice {
-        Notice::Found(place) => place,
-        Notice::Nobody => 0,
-        Notice::Refused(_) => 0,
+    match finding {
+        Finding::Found(offset) => offset,
+        Finding::Nobody => 0,
+        Finding::Refused(_) => 0,
     }
 }

@@ -18,17 +18,17 @@ use Rattle.wire.specs.Part.{Part, part}
 use Rattle.wire.proofs.Bytes.{length-bytesOf, numberAt-bytesOf}
 use Rattle.rules.specs.declared.Address.{Address}
 use Rattle.rules.specs.Section.{sealed}
-use Rattle.notification_rules.specs.declared.Notice.{Notice}
-use Rattle.notification_rules.specs.declared.Notice.the-variants.{Found, Nobody}
-use Rattle.notification_rules.specs.Cut.{Cut, isNil, any, placed}
-use Rattle.notification_rules.specs.Loop.{descriptorPieces, descriptorsOf, loopsOf, Pair, pairsOf}
-use Rattle.notification_rules.specs.Target.{addressNumber, sameUnder, inRange, covers, by, coverFrom, coverOf, isCover, Location, nowhere, at, located, isLocation, locationOf, answers, firstPair}
+use Rattle.notification_rules.specs.declared.Finding.{Finding}
+use Rattle.notification_rules.specs.declared.Finding.the-variants.{Found, Nobody}
+use Rattle.notification_rules.specs.Cut.{Cut, isNil, any, fromOffset}
+use Rattle.notification_rules.specs.Loop.{descriptorItems, descriptorsOf, loopsOf, Pair, pairsOf}
+use Rattle.notification_rules.specs.Target.{addressNumber, sameUnder, inRange, covers, by, coverFrom, coverOf, isCover, Location, nowhere, somewhere, located, isLocation, locationOf, answers, firstPair}
 use Rattle.notification_rules.specs.Target as target
-use Rattle.notification_rules.specs.Notice.{found, chosen, searched, noticeNumber, noticeOf, noticePlace, partOf}
+use Rattle.notification_rules.specs.Finding.{found, chosen, searched, findingNumber, findingOf, findingOffset, partOf}
 use Rattle.notification_rules.specs.Format.{Descriptor, masked, ranges, location, other, Loop, Notification, tagOf, rangeWritten, bodyWritten, descriptorWritten, contentWritten, loopWritten, pairWritten, headWritten, notificationWritten, Held, Fits, FitsLoop, Conforms, deviceNumber, sameWhere, one, targets, covered, locationIn, locationTo, foundAt, foundNobody, answerTo, Gives, WrittenIsFound}
 use Rattle.notification_rules.specs.Meaning.{byTurns}
-use Rattle.notification_rules.proofs.Pieces.{covered-any}
-use Rattle.notification_rules.proofs.Parts.{Stands, stands-behind, stands-bytes, stands-first, stands-second}
+use Rattle.notification_rules.proofs.Items.{covered-any}
+use Rattle.notification_rules.proofs.Parts.{Stands, stands-after, stands-bytes, stands-first, stands-second}
 use Rattle.notification_rules.proofs.Entries.{masks-cover, other-covers, ranges-cover}
 use Rattle.notification_rules.proofs.Found.{unrefused}
 use Rattle.notification_rules.proofs.Taken.{range-length, loop-content, descriptors-cut, loops-cut, written-is-taken}
@@ -144,7 +144,7 @@ covers-is device (other t b) h = other-covers device (descriptorWritten (other t
 
 -- ---- a loop that was written
 list-cover : (device : Address) (o : ℕ) (ds : List Descriptor) → ((d : Descriptor) → List·Memᴰ d ds → Fits d)
-    → isCover (pick (isNil (contentWritten ds)) (by 0) (coverFrom device (placed o (map descriptorWritten ds)))) ≡ covered (deviceNumber device) ds
+    → isCover (pick (isNil (contentWritten ds)) (by 0) (coverFrom device (fromOffset o (map descriptorWritten ds)))) ≡ covered (deviceNumber device) ds
 unfolding flatten pick isCover covered
 list-cover device o [] h = refl
 list-cover device o (d ∷ ds) h =
@@ -152,63 +152,63 @@ list-cover device o (d ∷ ds) h =
     ∙ any-one descriptorWritten (covers device) (targets (deviceNumber device)) (d ∷ ds) (λ e m. covers-is device e (h e m .held))
 
 module _ (l : Loop) (f : FitsLoop l) where
-  pieces-are : (o : ℕ) → descriptorsOf (part o (loopWritten l)) ≡ placed (o + 2) (map descriptorWritten (l .descriptors))
+  items-are : (o : ℕ) → descriptorsOf (part o (loopWritten l)) ≡ fromOffset (o + 2) (map descriptorWritten (l .descriptors))
   unfolding descriptorsOf
-  pieces-are o =
-      ap (λ (b : List ℕ). placed (o + 2) (descriptorPieces b)) (loop-content l)
-      ∙ ap (λ (c : Cut). placed (o + 2) (c .pieces)) (descriptors-cut (l .descriptors))
+  items-are o =
+      ap (λ (b : List ℕ). fromOffset (o + 2) (descriptorItems b)) (loop-content l)
+      ∙ ap (λ (c : Cut). fromOffset (o + 2) (c .items)) (descriptors-cut (l .descriptors))
 
   cover-is : (device : Address) (o : ℕ) → isCover (coverOf device (part o (loopWritten l))) ≡ covered (deviceNumber device) (l .descriptors)
   unfolding coverOf
   cover-is device o =
-      ap₂ (λ (b : List ℕ) (ds : List Part). isCover (pick (isNil b) (by 0) (coverFrom device ds))) (loop-content l) (pieces-are o)
+      ap₂ (λ (b : List ℕ) (ds : List Part). isCover (pick (isNil b) (by 0) (coverFrom device ds))) (loop-content l) (items-are o)
       ∙ list-cover device (o + 2) (l .descriptors) (f .descriptors)
 
--- the nine bytes of a 0x13, and their place
+-- the nine bytes of a 0x13, and their offset
 partAt : Location → Option Part
 partAt nowhere = none
-partAt (at d) = some (part (d .offset + 2) (drop 2 (d .bytes)))
+partAt (somewhere d) = some (part (d .offset + 2) (drop 2 (d .bytes)))
 
-nine-is : (o : ℕ) (ds : List Descriptor) → partAt (located (placed o (map descriptorWritten ds))) ≡ locationIn o ds
-unfolding located placed locationIn pick partAt
+nine-is : (o : ℕ) (ds : List Descriptor) → partAt (located (fromOffset o (map descriptorWritten ds))) ≡ locationIn o ds
+unfolding located fromOffset locationIn pick partAt
 nine-is o [] = refl
 nine-is o (d ∷ ds) = go (eqb (tagOf d) 0x13) (nine-is (o + length (descriptorWritten d)) ds)
   where
     go : (b : Bool)
-        → partAt (located (placed (o + length (descriptorWritten d)) (map descriptorWritten ds))) ≡ locationIn (o + length (descriptorWritten d)) ds
-        → partAt (pick b (at (part o (descriptorWritten d))) (located (placed (o + length (descriptorWritten d)) (map descriptorWritten ds))))
+        → partAt (located (fromOffset (o + length (descriptorWritten d)) (map descriptorWritten ds))) ≡ locationIn (o + length (descriptorWritten d)) ds
+        → partAt (pick b (somewhere (part o (descriptorWritten d))) (located (fromOffset (o + length (descriptorWritten d)) (map descriptorWritten ds))))
         ≡ cond b (some (part (o + 2) (bodyWritten d))) (locationIn (o + length (descriptorWritten d)) ds)
     go true ih = refl
     go false ih = ih
 
 located-is : (l : Loop) → FitsLoop l → (o : ℕ) → partAt (located (descriptorsOf (part o (loopWritten l)))) ≡ locationIn (o + 2) (l .descriptors)
-located-is l f o = ap (λ (ds : List Part). partAt (located ds)) (pieces-are l f o) ∙ nine-is (o + 2) (l .descriptors)
+located-is l f o = ap (λ (ds : List Part). partAt (located ds)) (items-are l f o) ∙ nine-is (o + 2) (l .descriptors)
 
 else-is : (a b : Location) → partAt (target.orElse a b) ≡ orElse (partAt a) (partAt b)
 unfolding target.orElse orElse partAt
 else-is nowhere b = refl
-else-is (at d) b = refl
+else-is (somewhere d) b = refl
 
 -- ---- the search
-noticeAt : Option Part → Notice
-noticeAt none = Nobody
-noticeAt (some p) = Found (p .offset)
+findingAt : Option Part → Finding
+findingAt none = Nobody
+findingAt (some p) = Found (p .offset)
 
 pair-is : (platform : Part) (c : Bool) (x : Pair) (l : Location) → locationOf platform x ≡ l → (later : Option Pair) (o : Option Part)
-    → chosen platform later ≡ noticeAt o
-    → chosen platform (pick (both c (isLocation l)) (some x) later) ≡ noticeAt (orElse (cond c (partAt l) none) o)
-unfolding chosen pick both isLocation found partAt noticeAt orElse
+    → chosen platform later ≡ findingAt o
+    → chosen platform (pick (both c (isLocation l)) (some x) later) ≡ findingAt (orElse (cond c (partAt l) none) o)
+unfolding chosen pick both isLocation found partAt findingAt orElse
 pair-is platform true x nowhere e later o h = h
-pair-is platform true x (at d) e later o h = ap found e
+pair-is platform true x (somewhere d) e later o h = ap found e
 pair-is platform false x nowhere e later o h = h
-pair-is platform false x (at d) e later o h = h
+pair-is platform false x (somewhere d) e later o h = h
 
 search-is : (device : Address) (platform : Loop) → FitsLoop platform → (o : ℕ) (ps : List (Loop × Loop))
     → ((p : Loop × Loop) → List·Memᴰ p ps → FitsLoop (p .0) × FitsLoop (p .1))
     → chosen (part 12 (loopWritten platform))
-    (firstPair (answers device (part 12 (loopWritten platform))) (pairsOf (placed o (map loopWritten (byTurns ps)))))
-    ≡ noticeAt (locationTo (deviceNumber device) (locationIn 14 (platform .descriptors)) o ps)
-unfolding byTurns placed pairsOf firstPair locationTo chosen answers locationOf noticeAt
+    (firstPair (answers device (part 12 (loopWritten platform))) (pairsOf (fromOffset o (map loopWritten (byTurns ps)))))
+    ≡ findingAt (locationTo (deviceNumber device) (locationIn 14 (platform .descriptors)) o ps)
+unfolding byTurns fromOffset pairsOf firstPair locationTo chosen answers locationOf findingAt
 search-is device platform f o [] h = refl
 search-is device platform f o (p ∷ ps) h =
     let here : Part = part 12 (loopWritten platform) in
@@ -218,14 +218,14 @@ search-is device platform f o (p ∷ ps) h =
     let fits = h p (List·Memᴰ·head refl) in
     let e : o + t + length (loopWritten (p .1)) ≡ o + length (pairWritten p) =
     omega (arith, length-append (loopWritten (p .0)) (loopWritten (p .1))) in
-    let place : partAt (locationOf here x) ≡ orElse (locationIn (o + t + 2) (p .1 .descriptors)) general =
+    let located-so : partAt (locationOf here x) ≡ orElse (locationIn (o + t + 2) (p .1 .descriptors)) general =
     else-is (located (descriptorsOf (x .operational))) (located (descriptorsOf here))
     ∙ ap₂ orElse (located-is (p .1) (fits .1) (o + t)) (located-is platform f 12) in
     let rest : Option Part = locationTo (deviceNumber device) general (o + length (pairWritten p)) ps in
     pair-is here (isCover (coverOf device (x .target))) x (locationOf here x) refl _ rest
-    (ap (λ (k : ℕ). chosen here (firstPair (answers device here) (pairsOf (placed k (map loopWritten (byTurns ps)))))) e
+    (ap (λ (k : ℕ). chosen here (firstPair (answers device here) (pairsOf (fromOffset k (map loopWritten (byTurns ps)))))) e
     ∙ search-is device platform f (o + length (pairWritten p)) ps (λ q m. h q (List·Memᴰ·tail m)))
-    ∙ ap₂ (λ (c : Bool) (l : Option Part). noticeAt (orElse (cond c l none) rest)) (cover-is (p .0) (fits .0) device o) place
+    ∙ ap₂ (λ (c : Bool) (l : Option Part). findingAt (orElse (cond c l none) rest)) (cover-is (p .0) (fits .0) device o) located-so
 
 -- ---- the nine bytes
 record Nine (s : List ℕ) (p : Part) : Type 0 where
@@ -272,7 +272,7 @@ module _ (s : List ℕ) where
           let first = stands-first s o (descriptorWritten d) (contentWritten ds) t in
           rw (← here)
           (record {
-            stands = stands-behind s (part o (descriptorWritten d)) 2 (omega arith) first;
+            stands = stands-after s (part o (descriptorWritten d)) 2 (omega arith) first;
             long = nine-long d (f d (List·Memᴰ·head refl) .held) (eqb-true _ _ q);
           })
       go false q e ih = ih e
@@ -303,17 +303,17 @@ module _ (s : List ℕ) where
       go (inr q) ih = ih q
 
 -- ---- the answer
-gives : (device : Address) (s : List ℕ) (o : Option Part) → noticeOf device s ≡ noticeAt o → ((p : Part) → o ≡ some p → Nine s p)
+gives : (device : Address) (s : List ℕ) (o : Option Part) → findingOf device s ≡ findingAt o → ((p : Part) → o ≡ some p → Nine s p)
     → Gives device s (Option·elim o foundNobody foundAt)
-unfolding noticeAt Option·elim
+unfolding findingAt Option·elim
 gives device s none e h =
-    record { notice = e; number = ap noticeNumber e; offset = ap noticePlace e; given = ap (partOf s) e }
+    record { finding = e; number = ap findingNumber e; offset = ap findingOffset e; given = ap (partOf s) e }
 gives device s (some p) e h =
     let nine = h p refl in
     record {
-      notice = e;
-      number = ap noticeNumber e;
-      offset = ap noticePlace e;
+      finding = e;
+      number = ap findingNumber e;
+      offset = ap findingOffset e;
       given = ap (partOf s) e ∙ ap (part (p .offset)) (stands-bytes s p 9 (nine .long) (nine .stands));
     }
 
@@ -340,11 +340,11 @@ module _ (n : Notification) (t : Conforms n) where
       (content-stands s (n .platform) 12 (stands-first s 12 (loopWritten (n .platform)) pairs loops-stand))
 
   pub found-is : (device : Address) → Gives device s (answerTo device n)
-  unfolding answerTo loopsOf placed searched
+  unfolding answerTo loopsOf fromOffset searched
   found-is device =
       gives device s _
       (unrefused device s (written-is-taken n t)
-      ∙ ap (λ (c : Cut). searched device (placed 12 (c .pieces))) (loops-cut n t)
+      ∙ ap (λ (c : Cut). searched device (fromOffset 12 (c .items))) (loops-cut n t)
       ∙ search-is device (n .platform) (t .platform) (12 + length (loopWritten (n .platform))) (n .pairs) (t .pairs))
       (pairs-stand s (deviceNumber device) _ general-stands (12 + length (loopWritten (n .platform))) (n .pairs) (t .pairs)
       (stands-second s 12 (loopWritten (n .platform)) pairs loops-stand))

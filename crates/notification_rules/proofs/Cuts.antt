@@ -1,4 +1,4 @@
--- A cut is a whole piece and the rest's cut, or nothing: the bound on the number of pieces never ends it, since each takes a byte at least.
+-- A cut is a whole item and the rest's cut, or nothing: the bound on the number of items never ends it, since each takes a byte at least.
 use Prim.Native.Nat.{ℕ, zero, suc, _≤_, _<_}
 use mathlib.Core.Path.{_≡_, refl, sym, ap, _∙_}
 use mathlib.Core.Bool.{Bool, true, false}
@@ -9,7 +9,7 @@ use borrow.Author.Tests.{lt-ltb, le-leb, lt-leb, ltb-true, leb-true}
 use native.Mathlib.Omega.{arith}
 use Rattle.wire.specs.Choice.{pick, both}
 use Rattle.wire.proofs.Choice.{both-true, never}
-use Rattle.notification_rules.specs.Cut.{Size, stop, more, whole, run, cutOf, isNil}
+use Rattle.notification_rules.specs.Cut.{Size, stop, more, whole, cutWithin, cutOf, isNil}
 
 pub nil-true : (s : List ℕ) → length s ≡ 0 → isNil s ≡ true
 nil-true [] h = refl
@@ -38,49 +38,49 @@ module _ (size : Size) where
       let p = both-true (ltb 0 (size s)) (leb (size s) (length s)) h in
       (ltb-true 0 (size s) (p .0), leb-true (size s) (length s) (p .1))
 
-  run-stop : (k : ℕ) (s : List ℕ) → whole size s ≡ false → run size k s ≡ stop s
-  unfolding run pick
-  run-stop zero s h = refl
-  run-stop (suc k) s h = rw h
+  within-stop : (k : ℕ) (s : List ℕ) → whole size s ≡ false → cutWithin size k s ≡ stop s
+  unfolding cutWithin pick
+  within-stop zero s h = refl
+  within-stop (suc k) s h = rw h
 
-  run-more : (k : ℕ) (s : List ℕ) → whole size s ≡ true → run size (suc k) s ≡ more (take (size s) s) (run size k (drop (size s) s))
-  unfolding run pick
-  run-more k s h = rw h
+  within-more : (k : ℕ) (s : List ℕ) → whole size s ≡ true → cutWithin size (suc k) s ≡ more (take (size s) s) (cutWithin size k (drop (size s) s))
+  unfolding cutWithin pick
+  within-more k s h = rw h
 
   pub cut-stop : (s : List ℕ) → whole size s ≡ false → cutOf size s ≡ stop s
   unfolding cutOf
-  cut-stop s h = run-stop (length s) s h
+  cut-stop s h = within-stop (length s) s h
 
-  run-fuel : (j k : ℕ) (s : List ℕ) → length s ≤ j → length s ≤ k → run size j s ≡ run size k s
-  run-fuel zero zero s h g = refl
-  run-fuel zero (suc k) s h g = go (whole size s) refl
+  within-fuel : (j k : ℕ) (s : List ℕ) → length s ≤ j → length s ≤ k → cutWithin size j s ≡ cutWithin size k s
+  within-fuel zero zero s h g = refl
+  within-fuel zero (suc k) s h g = go (whole size s) refl
     where
-      go : (b : Bool) → whole size s ≡ b → run size zero s ≡ run size (suc k) s
+      go : (b : Bool) → whole size s ≡ b → cutWithin size zero s ≡ cutWithin size (suc k) s
       go true e = absurd (omega (arith, whole-true s e))
-      go false e = run-stop zero s e ∙ sym (run-stop (suc k) s e)
-  run-fuel (suc j) zero s h g = go (whole size s) refl
+      go false e = within-stop zero s e ∙ sym (within-stop (suc k) s e)
+  within-fuel (suc j) zero s h g = go (whole size s) refl
     where
-      go : (b : Bool) → whole size s ≡ b → run size (suc j) s ≡ run size zero s
+      go : (b : Bool) → whole size s ≡ b → cutWithin size (suc j) s ≡ cutWithin size zero s
       go true e = absurd (omega (arith, whole-true s e))
-      go false e = run-stop (suc j) s e ∙ sym (run-stop zero s e)
-  run-fuel (suc j) (suc k) s h g = go (whole size s) refl (run-fuel j k (drop (size s) s))
+      go false e = within-stop (suc j) s e ∙ sym (within-stop zero s e)
+  within-fuel (suc j) (suc k) s h g = go (whole size s) refl (within-fuel j k (drop (size s) s))
     where
       go : (b : Bool) → whole size s ≡ b
           → (length (drop (size s) s) ≤ j → length (drop (size s) s) ≤ k
-          → run size j (drop (size s) s) ≡ run size k (drop (size s) s))
-          → run size (suc j) s ≡ run size (suc k) s
+          → cutWithin size j (drop (size s) s) ≡ cutWithin size k (drop (size s) s))
+          → cutWithin size (suc j) s ≡ cutWithin size (suc k) s
       go true e ih =
-          run-more j s e
+          within-more j s e
           ∙ ap (more (take (size s) s)) (ih (simp length-drop (omega (arith, whole-true s e)))
           (simp length-drop (omega (arith, whole-true s e))))
-          ∙ sym (run-more k s e)
-      go false e ih = run-stop (suc j) s e ∙ sym (run-stop (suc k) s e)
+          ∙ sym (within-more k s e)
+      go false e ih = within-stop (suc j) s e ∙ sym (within-stop (suc k) s e)
 
   pub cut-more : (s : List ℕ) → whole size s ≡ true → cutOf size s ≡ more (take (size s) s) (cutOf size (drop (size s) s))
   unfolding cutOf
   cut-more s h =
-      run-fuel (length s) (suc (length s)) s (omega arith) (omega arith)
-      ∙ run-more (length s) s h
+      within-fuel (length s) (suc (length s)) s (omega arith) (omega arith)
+      ∙ within-more (length s) s h
       ∙ ap
       (more (take (size s) s))
-      (run-fuel (length s) (length (drop (size s) s)) (drop (size s) s) (simp length-drop (omega arith)) (omega arith))
+      (within-fuel (length s) (length (drop (size s) s)) (drop (size s) s) (simp length-drop (omega arith)) (omega arith))

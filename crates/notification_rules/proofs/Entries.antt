@@ -13,7 +13,7 @@ use Rattle.notification_rules.specs.Cut.{Cut, cutOf, any}
 use Rattle.rules.specs.declared.Address.{Address}
 use Rattle.notification_rules.specs.Target.{macAddress, macAddressRange, sameUnder, inRange, entrySize, entryBytes, hit, covers}
 use Rattle.notification_rules.specs.Loop.{tag}
-use Rattle.notification_rules.proofs.Pieces.{stops, entry-some}
+use Rattle.notification_rules.proofs.Items.{stops, entry-some}
 use Rattle.notification_rules.proofs.Written.{cut-back}
 
 same-list : (xs : List (List ℕ)) → map (λ x. x) xs ≡ xs
@@ -22,10 +22,10 @@ same-list (x ∷ xs) = ap (λ (ys : List (List ℕ)). x ∷ ys) (same-list xs)
 
 -- entries of n bytes, back to back
 entries-back : (n : ℕ) → 0 < n → (xs : List (List ℕ)) → ((e : List ℕ) → List·Memᴰ e xs → length e ≡ n)
-    → cutOf (λ _. n) (flatten xs) .pieces ≡ xs
+    → cutOf (λ _. n) (flatten xs) .items ≡ xs
 entries-back n g xs h =
-    ap (λ (ys : List (List ℕ)). cutOf (λ _. n) (flatten ys) .pieces) (sym (same-list xs))
-    ∙ ap (λ (c : Cut). c .pieces) (cut-back (λ _. n) (λ s. g) (λ x. x) (λ x. length x ≡ n) (λ x e s. sym e) xs h)
+    ap (λ (ys : List (List ℕ)). cutOf (λ _. n) (flatten ys) .items) (sym (same-list xs))
+    ∙ ap (λ (c : Cut). c .items) (cut-back (λ _. n) (λ s. g) (λ x. x) (λ x. length x ≡ n) (λ x e s. sym e) xs h)
     ∙ same-list xs
 
 number-front : (n : ℕ) (s t : List ℕ) (i : ℕ) → i + n ≤ length s → numberAt n (s ++ t) i ≡ numberAt n s i
@@ -45,7 +45,7 @@ pub masks-cover : (device : Address) (mask : List ℕ) (entries : List (List ℕ
     → covers device (0x07 ∷ length (mask ++ flatten entries) ∷ (mask ++ flatten entries)) ≡ any (sameUnder device mask) entries
 unfolding covers entryBytes entrySize pick hit sameUnder
 masks-cover device mask xs m h =
-    ap (λ (a : List ℕ). any (hit device d) (cutOf (λ _. 6) a .pieces)) (drop-at mask (flatten xs) 6 m)
+    ap (λ (a : List ℕ). any (hit device d) (cutOf (λ _. 6) a .items)) (drop-at mask (flatten xs) 6 m)
     ∙ ap (any (hit device d)) (entries-back 6 (omega arith) xs h)
     ∙ same-tests (hit device d) (sameUnder device mask) same xs
   where
@@ -71,6 +71,6 @@ no-entries d m r = rw (ne-eqb (tag d) macAddress m, ne-eqb (tag d) macAddressRan
 pub other-covers : (device : Address) (d : List ℕ) → (tag d ≡ macAddress → ⊥) → (tag d ≡ macAddressRange → ⊥) → covers device d ≡ false
 unfolding covers any
 other-covers device d m r =
-    ap (λ (a : List ℕ). any (hit device d) (cutOf (λ _. entrySize (tag d)) a .pieces)) (no-entries d m r)
-    ∙ ap (λ (c : Cut). any (hit device d) (c .pieces)) (stops (λ _. entrySize (tag d)) (λ _. entry-some (tag d)) []
+    ap (λ (a : List ℕ). any (hit device d) (cutOf (λ _. entrySize (tag d)) a .items)) (no-entries d m r)
+    ∙ ap (λ (c : Cut). any (hit device d) (c .items)) (stops (λ _. entrySize (tag d)) (λ _. entry-some (tag d)) []
     (entry-some (tag d)))

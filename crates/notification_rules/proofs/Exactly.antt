@@ -13,10 +13,10 @@ use Rattle.wire.specs.Part.{Part}
 use Rattle.wire.proofs.Choice.{firstOf-without}
 use Rattle.rules.specs.declared.Address.{Address}
 use Rattle.rules.specs.Check.{sharedLines, formLines, orderLines}
-use Rattle.notification_rules.specs.declared.Notice.{Notice}
-use Rattle.notification_rules.specs.declared.Notice.the-variants.{Found, Nobody, Refused}
+use Rattle.notification_rules.specs.declared.Finding.{Finding}
+use Rattle.notification_rules.specs.declared.Finding.the-variants.{Found, Nobody, Refused}
 use Rattle.notification_rules.specs.Format.{Nothing, answerTo, foundAt, foundNobody, Notification, OthersGiveNothing, TakenExactly}
-use Rattle.notification_rules.specs.Notice.{loopLines, noticeNumber, noticeOf, noticePlace, notificationForm, partOf, platformLines, refusal}
+use Rattle.notification_rules.specs.Finding.{loopLines, findingNumber, findingOf, findingOffset, notificationForm, partOf, platformLines, refusal}
 use Rattle.notification_rules.proofs.Answered.{written-is-found}
 use Rattle.notification_rules.proofs.Found.{takes}
 use Rattle.notification_rules.proofs.Rewritten.{taken-is-written}
@@ -27,16 +27,16 @@ no-line : (n : ℕ) (s : List ℕ) → without n (sharedLines notificationForm s
 unfolding refusal
 no-line n s h z = firstOf-without n (sharedLines notificationForm s ++ (platformLines s ++ loopLines s)) h z
 
-number-refused : (device : Address) (s : List ℕ) → (refusal s ≡ 0 → ⊥) → noticeNumber (noticeOf device s) ≡ refusal s
-unfolding noticeOf pick
+number-refused : (device : Address) (s : List ℕ) → (refusal s ≡ 0 → ⊥) → findingNumber (findingOf device s) ≡ refusal s
+unfolding findingOf pick
 number-refused device s h = rw (ne-eqb (refusal s) 0 h)
 
-pub not-refused : (device : Address) (s : List ℕ) → (noticeNumber (noticeOf device s) ≡ 3) ⊎ (noticeNumber (noticeOf device s) ≡ 4)
+pub not-refused : (device : Address) (s : List ℕ) → (findingNumber (findingOf device s) ≡ 3) ⊎ (findingNumber (findingOf device s) ≡ 4)
     → refusal s ≡ 0
 unfolding without both sharedLines formLines orderLines platformLines loopLines
 not-refused device s h = go (ℕ-discrete (refusal s) 0) h
   where
-    go : Dec (refusal s ≡ 0) → (noticeNumber (noticeOf device s) ≡ 3) ⊎ (noticeNumber (noticeOf device s) ≡ 4) → refusal s ≡ 0
+    go : Dec (refusal s ≡ 0) → (findingNumber (findingOf device s) ≡ 3) ⊎ (findingNumber (findingOf device s) ≡ 4) → refusal s ≡ 0
     go (yes e) h = e
     go (no e) (inl k) = absurd (no-line 3 s refl (λ z. omega arith) (sym (number-refused device s e) ∙ k))
     go (no e) (inr k) = absurd (no-line 4 s refl (λ z. omega arith) (sym (number-refused device s e) ∙ k))
@@ -55,27 +55,27 @@ pub taken-exactly : TakenExactly
 taken-exactly device s b = (
   λ h. taken-is-written s b (not-refused device s h),
   λ w.
-      let number : noticeNumber (noticeOf device s) ≡ answerTo device (w .value) .number =
-      ap (λ (x : List ℕ). noticeNumber (noticeOf device x)) (sym (w .is)) ∙ written-is-found device (w .value) (w .conforms) .number in
+      let number : findingNumber (findingOf device s) ≡ answerTo device (w .value) .number =
+      ap (λ (x : List ℕ). findingNumber (findingOf device x)) (sym (w .is)) ∙ written-is-found device (w .value) (w .conforms) .number in
       rw number (answer-number device (w .value)),
 )
 
 -- ---- any number but 3
-nothing : (device : Address) (s : List ℕ) (x : Notice) → noticeOf device s ≡ x → ((k : ℕ) → x ≡ Refused k → k ≡ 4 → ⊥)
-    → Nothing device s (noticeNumber x)
+nothing : (device : Address) (s : List ℕ) (x : Finding) → findingOf device s ≡ x → ((k : ℕ) → x ≡ Refused k → k ≡ 4 → ⊥)
+    → Nothing device s (findingNumber x)
 nothing device s (Found p) e h = record { nobody = λ k. absurd (omega arith); refused = λ k. absurd (k refl) }
 nothing device s Nobody e h =
     record {
-      nobody = λ k. record { notice = e; number = ap noticeNumber e; offset = ap noticePlace e; given = ap (partOf s) e };
+      nobody = λ k. record { finding = e; number = ap findingNumber e; offset = ap findingOffset e; given = ap (partOf s) e };
       refused = λ j k. absurd (k refl);
     }
 nothing device s (Refused n) e h =
     record {
       nobody = λ k. absurd (h n refl k);
-      refused = λ j k. record { notice = e; number = ap noticeNumber e; offset = ap noticePlace e; given = ap (partOf s) e };
+      refused = λ j k. record { finding = e; number = ap findingNumber e; offset = ap findingOffset e; given = ap (partOf s) e };
     }
 
 pub others-give-nothing : OthersGiveNothing
 others-give-nothing device s =
-    nothing device s (noticeOf device s) refl
-    (λ k e f. takes device s (not-refused device s (inr (ap noticeNumber e ∙ f))) k e)
+    nothing device s (findingOf device s) refl
+    (λ k e f. takes device s (not-refused device s (inr (ap findingNumber e ∙ f))) k e)

@@ -9,10 +9,10 @@ use borrow.Author.Tests.{eq-eqb}
 use Rattle.wire.specs.Choice.{pick}
 use Rattle.rules.specs.declared.Address.{Address}
 use Rattle.wire.specs.Part.{Part}
-use Rattle.notification_rules.specs.declared.Notice.the-variants.{Refused}
+use Rattle.notification_rules.specs.declared.Finding.the-variants.{Refused}
 use Rattle.notification_rules.specs.Loop.{loopsOf, Pair, pairsOf}
-use Rattle.notification_rules.specs.Target.{Location, nowhere, at, locationOf, answers, firstPair}
-use Rattle.notification_rules.specs.Notice.{refusal, found, chosen, searched, noticeOf}
+use Rattle.notification_rules.specs.Target.{Location, nowhere, somewhere, locationOf, answers, firstPair}
+use Rattle.notification_rules.specs.Finding.{refusal, found, chosen, searched, findingOf}
 
 -- ---- the pair that is chosen is one of them, and passes the test
 pub record First (f : Pair → Bool) (xs : List Pair) (x : Pair) : Type 0 where
@@ -46,15 +46,15 @@ first-is f (y ∷ ys) x h = go (f y) refl h (first-is f ys x)
         }
 
 -- ---- where no line applies, the answer is the search's
-pub unrefused : (device : Address) (s : List ℕ) → refusal s ≡ 0 → noticeOf device s ≡ searched device (loopsOf s)
-unfolding noticeOf pick
+pub unrefused : (device : Address) (s : List ℕ) → refusal s ≡ 0 → findingOf device s ≡ searched device (loopsOf s)
+unfolding findingOf pick
 unrefused device s h = rw (eq-eqb (refusal s) 0 h)
 
 -- ---- the search refuses nothing
 found-takes : (l : Location) (k : ℕ) → found l ≡ Refused k → ⊥
 unfolding found
 found-takes nowhere k h = let z : _≡_ {A = ℕ} 0 1 = cc in omega arith
-found-takes (at d) k h = let z : _≡_ {A = ℕ} 0 1 = cc in omega arith
+found-takes (somewhere d) k h = let z : _≡_ {A = ℕ} 0 1 = cc in omega arith
 
 searched-takes : (device : Address) (ls : List Part) (k : ℕ) → searched device ls ≡ Refused k → ⊥
 unfolding searched chosen
@@ -65,5 +65,5 @@ searched-takes device (platform ∷ loops) k h = go (firstPair (answers device p
     go none h = let z : _≡_ {A = ℕ} 0 1 = cc in omega arith
     go (some x) h = found-takes (locationOf platform x) k h
 
-pub takes : (device : Address) (s : List ℕ) → refusal s ≡ 0 → (k : ℕ) → noticeOf device s ≡ Refused k → ⊥
+pub takes : (device : Address) (s : List ℕ) → refusal s ≡ 0 → (k : ℕ) → findingOf device s ≡ Refused k → ⊥
 takes device s h k e = searched-takes device (loopsOf s) k (sym (unrefused device s h) ∙ e)

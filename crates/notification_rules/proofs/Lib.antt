@@ -6,8 +6,8 @@ pub mod Exactly
 pub mod Found
 pub mod Meaning
 pub mod Parts
-pub mod Pieces
-pub mod Places
+pub mod Items
+pub mod Located
 pub mod Reached
 pub mod Rewritten
 pub mod Sound

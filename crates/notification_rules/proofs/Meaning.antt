@@ -20,14 +20,14 @@ use Rattle.rules.specs.Check.{sharedRefusal, sharedLines, formLines, orderLines
 use Rattle.rules.specs.Section.{sectionSyntaxIndicator}
 use Rattle.rules.proofs.Check.{shared-numbered}
 use Rattle.rules.proofs.Meaning.{gives-refusal}
-use Rattle.notification_rules.specs.declared.Notice.{Notice}
-use Rattle.notification_rules.specs.declared.Notice.the-variants.{Found, Nobody, Refused}
+use Rattle.notification_rules.specs.declared.Finding.{Finding}
+use Rattle.notification_rules.specs.declared.Finding.the-variants.{Found, Nobody, Refused}
 use Rattle.notification_rules.specs.Cut.{Cut, cutOf, every}
 use Rattle.notification_rules.specs.Format.{answerTo, Written, bodyWritten, Descriptor, descriptorWritten, Loop, loopWritten, tagOf}
 use Rattle.notification_rules.specs.Loop.{actionType, bodyLength, content, loopCut, loopsOf, loopSize, Pair, pairsOf, platformIdHash, tag}
 use Rattle.notification_rules.specs.Meaning.{Filled, Finds, HoldsOther, NotificationMeans, OtherLength, Short}
-use Rattle.notification_rules.specs.Notice.{chosen, found, known, loopLines, misfit, noticeNumber, noticeOf, notificationForm, otherAction, otherLength, platformLines, refusal, searched, wrongHash}
-use Rattle.notification_rules.specs.Target.{answers, at, firstPair, Location, locationOf, nowhere, rightLength}
+use Rattle.notification_rules.specs.Finding.{chosen, found, known, loopLines, misfit, findingNumber, findingOf, notificationForm, otherAction, otherLength, platformLines, refusal, searched, wrongHash}
+use Rattle.notification_rules.specs.Target.{answers, firstPair, Location, locationOf, nowhere, rightLength, somewhere}
 use Rattle.notification_rules.proofs.Answered.{written-is-found}
 use Rattle.notification_rules.proofs.Parts.{every-one}
 use Rattle.notification_rules.proofs.Rewritten.{filled-exactly, taken-is-written}
@@ -116,7 +116,7 @@ known-is : (l : Loop) → known (content (loopWritten l)) ≡ every right (l .de
 unfolding known
 known-is l =
     ap known (loop-content l)
-    ∙ ap (λ (c : Cut). every (λ d. rightLength (tag d) (bodyLength d)) (c .pieces)) (descriptors-cut (l .descriptors))
+    ∙ ap (λ (c : Cut). every (λ d. rightLength (tag d) (bodyLength d)) (c .items)) (descriptors-cut (l .descriptors))
     ∙ every-map (λ d. rightLength (tag d) (bodyLength d)) descriptorWritten (l .descriptors)
 
 module _ (s : List ℕ) where
@@ -126,9 +126,9 @@ module _ (s : List ℕ) where
   other-is : (f : Filled s) → otherLength s ≡ not (every (λ l. known (content (loopWritten l))) (all f))
   unfolding otherLength loopCut
   other-is f =
-      let e : loopCut s ≡ record { pieces = map loopWritten (all f); left = [] } =
+      let e : loopCut s ≡ record { items = map loopWritten (all f); left = [] } =
       ap (cutOf loopSize) (sym (f .is)) ∙ loops-back (f .platform) (f .pairs) (loops-all Short (f .platform) (f .pairs) (f .short) (f .shorts)) in
-      ap (λ (c : Cut). not (every (λ l. known (content l)) (c .pieces))) e
+      ap (λ (c : Cut). not (every (λ l. known (content l)) (c .items))) e
       ∙ ap not (every-map (λ l. known (content l)) loopWritten (all f))
 
   holds-tells : Filled s → Tells (otherLength s) (HoldsOther s)
@@ -175,40 +175,40 @@ unfolding wrongHash platformIdHash
 hash s = tells-not _ (tells-eq (byteAt s 4) (bitXor (bitXor (byteAt s 8) (byteAt s 9)) (byteAt s 10)))
 
 -- ---- 3 and 4
-unfoldable isFound : Notice → Bool
+unfoldable isFound : Finding → Bool
 isFound (Found p) = true
 isFound Nobody = false
 isFound (Refused n) = false
 
--- of a notice that is no refusal
-found-three : (x : Notice) → isFound x ≡ true → noticeNumber x ≡ 3
+-- of a finding that is no refusal
+found-three : (x : Finding) → isFound x ≡ true → findingNumber x ≡ 3
 unfolding isFound
 found-three (Found p) h = refl
 found-three Nobody h = absurd (never h)
 found-three (Refused n) h = absurd (never h)
 
-three-found : (x : Notice) → noticeNumber x ≡ first (isFound x) 3 4 → noticeNumber x ≡ 3 → isFound x ≡ true
+three-found : (x : Finding) → findingNumber x ≡ first (isFound x) 3 4 → findingNumber x ≡ 3 → isFound x ≡ true
 unfolding isFound first
 three-found (Found p) e h = refl
 three-found Nobody e h = absurd (omega arith)
 three-found (Refused n) e h = absurd (omega (arith, sym e ∙ h))
 
-found-number : (l : Location) → noticeNumber (found l) ≡ first (isFound (found l)) 3 4
+found-number : (l : Location) → findingNumber (found l) ≡ first (isFound (found l)) 3 4
 unfolding isFound found first
 found-number nowhere = refl
-found-number (at d) = refl
+found-number (somewhere d) = refl
 
-chosen-number : (platform : Part) (x : Option Pair) → noticeNumber (chosen platform x) ≡ first (isFound (chosen platform x)) 3 4
+chosen-number : (platform : Part) (x : Option Pair) → findingNumber (chosen platform x) ≡ first (isFound (chosen platform x)) 3 4
 unfolding isFound chosen first
 chosen-number platform none = refl
 chosen-number platform (some x) = found-number (locationOf platform x)
 
-searched-number : (device : Address) (ls : List Part) → noticeNumber (searched device ls) ≡ first (isFound (searched device ls)) 3 4
+searched-number : (device : Address) (ls : List Part) → findingNumber (searched device ls) ≡ first (isFound (searched device ls)) 3 4
 unfolding isFound searched first
 searched-number device [] = refl
 searched-number device (platform ∷ loops) = chosen-number platform (firstPair (answers device platform) (pairsOf loops))
 
-number-pick : (t : Bool) (x y : Notice) → noticeNumber (pick t x y) ≡ pick t (noticeNumber x) (noticeNumber y)
+number-pick : (t : Bool) (x y : Finding) → findingNumber (pick t x y) ≡ pick t (findingNumber x) (findingNumber y)
 unfolding pick
 number-pick true x y = refl
 number-pick false x y = refl
@@ -217,22 +217,22 @@ module _ (device : Address) (s : List ℕ) (b : Bytes s) where
   abbrev lines : List Line
   lines = sharedLines notificationForm s ++ (platformLines s ++ loopLines s)
 
-  abbrev sought : Notice
+  abbrev sought : Finding
   sought = searched device (loopsOf s)
 
-  number-notice : noticeNumber (noticeOf device s) ≡ orElse lines (first (isFound sought) 3 4)
-  unfolding noticeOf refusal without both sharedLines formLines orderLines platformLines loopLines
-  number-notice =
+  number-finding : findingNumber (findingOf device s) ≡ orElse lines (first (isFound sought) 3 4)
+  unfolding findingOf refusal without both sharedLines formLines orderLines platformLines loopLines
+  number-finding =
       number-pick (eqb (firstOf lines) 0) sought (Refused (firstOf lines))
-      ∙ or-else lines (noticeNumber sought) refl
+      ∙ or-else lines (findingNumber sought) refl
       ∙ ap (orElse lines) (searched-number device (loopsOf s))
 
   finds-tells : refusal s ≡ 0 → Tells (isFound sought) (Finds device s)
-  unfolding noticeOf pick
+  unfolding findingOf pick
   finds-tells r =
-      let notice : noticeOf device s ≡ sought = rw (eq-eqb (refusal s) 0 r) in
-      let number : (w : Written s) → noticeNumber sought ≡ answerTo device (w .value) .number =
-      λ w. ap noticeNumber (sym notice ∙ ap (noticeOf device) (sym (w .is))) ∙ written-is-found device (w .value) (w .conforms) .number in (
+      let finding : findingOf device s ≡ sought = rw (eq-eqb (refusal s) 0 r) in
+      let number : (w : Written s) → findingNumber sought ≡ answerTo device (w .value) .number =
+      λ w. ap findingNumber (sym finding ∙ ap (findingOf device) (sym (w .is))) ∙ written-is-found device (w .value) (w .conforms) .number in (
         λ p. let w = taken-is-written s b r in record { written = w; found = sym (number w) ∙ found-three sought p },
         λ w. three-found sought (searched-number device (loopsOf s)) (number (w .written) ∙ w .found),
       )
@@ -254,7 +254,7 @@ module _ (device : Address) (s : List ℕ) (b : Bytes s) where
 pub notification-means : NotificationMeans
 unfolding orElse sharedLines formLines orderLines platformLines loopLines wrongSyntax sectionSyntaxIndicator
 notification-means device s b n =
-    rw (number-notice device s b)
+    rw (number-finding device s b)
     (gives-refusal notificationForm s _ _ _ (syntax s) (λ h _.
     gives-row _ 30 (action s) (λ e30.
     gives-row _ 31 (hash s) (λ e31.

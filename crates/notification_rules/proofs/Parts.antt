@@ -1,4 +1,4 @@
--- The pieces of a cut, joined, are the bytes that were cut; so each of them stands where `placed` puts it.
+-- The items of a cut, joined, are the bytes that were cut; so each of them stands where `fromOffset` puts it.
 use Prim.Native.Nat.{ℕ, zero, suc, _+_, _≤_, _<_}
 use native.Mathlib.Omega.{arith}
 use mathlib.Core.Path.{_≡_, refl, sym, ap, _∙_}
@@ -11,12 +11,12 @@ use Rattle.wire.specs.Bytes.{numberAt}
 use Rattle.wire.specs.Choice.{both}
 use Rattle.wire.proofs.Choice.{never}
 use Rattle.wire.specs.Part.{Part, part}
-use Rattle.notification_rules.specs.Cut.{Size, Cut, stop, more, whole, cutOf, every, placed}
-use Rattle.notification_rules.specs.Loop.{descriptorSize, loopSize, descriptorPieces}
+use Rattle.notification_rules.specs.Cut.{Size, Cut, stop, more, whole, cutOf, every, fromOffset}
+use Rattle.notification_rules.specs.Loop.{descriptorSize, loopSize, descriptorItems}
 use Rattle.notification_rules.proofs.Cuts.{whole-true, cut-stop, cut-more}
-use Rattle.notification_rules.proofs.Pieces.{front, descriptor-two, loop-two}
+use Rattle.notification_rules.proofs.Items.{front, descriptor-two, loop-two}
 
--- ---- what holds of nothing, and of a piece and what follows it, holds of a cut
+-- ---- what holds of nothing, and of an item and what follows it, holds of a cut
 module _ (size : Size) (P : List ℕ → Cut → Type 0)
     (none : (s : List ℕ) → whole size s ≡ false → P s (stop s))
     (some : (s : List ℕ) → whole size s ≡ true → P (drop (size s) s) (cutOf size (drop (size s) s))
@@ -33,37 +33,37 @@ module _ (size : Size) (P : List ℕ → Cut → Type 0)
   pub induct : (s : List ℕ) → P s (cutOf size s)
   induct s = upTo (suc (length s)) s (omega arith)
 
--- the pieces, joined, and what is left
-pub rejoined : (size : Size) (s : List ℕ) → flatten (cutOf size s .pieces) ++ cutOf size s .left ≡ s
+-- the items, joined, and what is left
+pub rejoined : (size : Size) (s : List ℕ) → flatten (cutOf size s .items) ++ cutOf size s .left ≡ s
 unfolding flatten
 rejoined size =
-    induct size (λ s c. flatten (c .pieces) ++ c .left ≡ s) (λ s h. refl)
+    induct size (λ s c. flatten (c .items) ++ c .left ≡ s) (λ s h. refl)
     λ s h ih. append-assoc (take (size s) s) _ _ ∙ ap (λ (l : List ℕ). take (size s) s ++ l) ih ∙ take-append-drop (size s) s
 
--- a piece is as long as it says, where its own bytes say it
-piece-long : (size : Size) → ((s : List ℕ) → size (take (size s) s) ≡ size s) → (s d : List ℕ) → List·Memᴰ d (cutOf size s .pieces)
+-- an item is as long as it says, where its own bytes say it
+item-long : (size : Size) → ((s : List ℕ) → size (take (size s) s) ≡ size s) → (s d : List ℕ) → List·Memᴰ d (cutOf size s .items)
     → length d ≡ size d
-piece-long size own s d =
-    induct size (λ s c. List·Memᴰ d (c .pieces) → length d ≡ size d) (λ s h m. absurd (List·Memᴰ·not-nil m))
+item-long size own s d =
+    induct size (λ s c. List·Memᴰ d (c .items) → length d ≡ size d) (λ s h m. absurd (List·Memᴰ·not-nil m))
     (λ s h ih m. go s h ih (List·Memᴰ·cases-cons m)) s
   where
-    go : (s : List ℕ) → whole size s ≡ true → (List·Memᴰ d (cutOf size (drop (size s) s) .pieces) → length d ≡ size d)
-        → (d ≡ take (size s) s) ⊎ List·Memᴰ d (cutOf size (drop (size s) s) .pieces) → length d ≡ size d
+    go : (s : List ℕ) → whole size s ≡ true → (List·Memᴰ d (cutOf size (drop (size s) s) .items) → length d ≡ size d)
+        → (d ≡ take (size s) s) ⊎ List·Memᴰ d (cutOf size (drop (size s) s) .items) → length d ≡ size d
     go s h ih (inl e) = rw (e, length-take-le (size s) s (whole-true size s h .1)) (sym (own s))
     go s h ih (inr m) = ih m
 
 -- a descriptor's length is its second byte
-pub descriptor-long : (s d : List ℕ) → List·Memᴰ d (descriptorPieces s) → length d ≡ descriptorSize d
+pub descriptor-long : (s d : List ℕ) → List·Memᴰ d (descriptorItems s) → length d ≡ descriptorSize d
 unfolding descriptorSize
-descriptor-long = piece-long descriptorSize own
+descriptor-long = item-long descriptorSize own
   where
     own : (s : List ℕ) → descriptorSize (take (descriptorSize s) s) ≡ descriptorSize s
     own s = ap (λ (n : ℕ). 2 + n) (front (descriptorSize s) 1 s (omega (arith, descriptor-two s)))
 
 -- a loop's length is in its first two bytes
-pub loop-long : (s l : List ℕ) → List·Memᴰ l (cutOf loopSize s .pieces) → length l ≡ loopSize l
+pub loop-long : (s l : List ℕ) → List·Memᴰ l (cutOf loopSize s .items) → length l ≡ loopSize l
 unfolding loopSize numberAt
-loop-long = piece-long loopSize own
+loop-long = item-long loopSize own
   where
     own : (s : List ℕ) → loopSize (take (loopSize s) s) ≡ loopSize s
     own s =
@@ -81,18 +81,18 @@ every-one f (y ∷ ys) x h m = go (f y) refl h (every-one f ys x) (List·Memᴰ�
     go true e h ih (inr m) = ih h m
     go false e h ih q = absurd (never h)
 
-pub placed-member : (o : ℕ) (bs : List (List ℕ)) (p : Part) → List·Memᴰ p (placed o bs) → List·Memᴰ (p .bytes) bs
-unfolding placed
-placed-member o [] p m = absurd (List·Memᴰ·not-nil m)
-placed-member o (b ∷ bs) p m = go (List·Memᴰ·cases-cons m) (placed-member (o + length b) bs p)
+pub offset-member : (o : ℕ) (bs : List (List ℕ)) (p : Part) → List·Memᴰ p (fromOffset o bs) → List·Memᴰ (p .bytes) bs
+unfolding fromOffset
+offset-member o [] p m = absurd (List·Memᴰ·not-nil m)
+offset-member o (b ∷ bs) p m = go (List·Memᴰ·cases-cons m) (offset-member (o + length b) bs p)
   where
-    go : (p ≡ part o b) ⊎ List·Memᴰ p (placed (o + length b) bs)
-        → (List·Memᴰ p (placed (o + length b) bs) → List·Memᴰ (p .bytes) bs) → List·Memᴰ (p .bytes) (b ∷ bs)
+    go : (p ≡ part o b) ⊎ List·Memᴰ p (fromOffset (o + length b) bs)
+        → (List·Memᴰ p (fromOffset (o + length b) bs) → List·Memᴰ (p .bytes) bs) → List·Memᴰ (p .bytes) (b ∷ bs)
     go (inl e) ih = List·Memᴰ·head (ap (λ (q : Part). q .bytes) e)
     go (inr n) ih = List·Memᴰ·tail (ih n)
 
 -- ---- where parts stand
--- the part's bytes stand in s at its place: what stands before and behind it
+-- the part's bytes stand in s at its offset: what stands before and after it
 pub record Stands (s : List ℕ) (p : Part) : Type 0 where
   pub front : List ℕ
   pub back : List ℕ
@@ -118,24 +118,24 @@ stands-second s o x y t =
       offset = ap (λ (n : ℕ). n + length x) (t .offset) ∙ sym (length-append (t .front) x);
     }
 
-pub placed-stands : (s : List ℕ) (o : ℕ) (bs : List (List ℕ)) (left : List ℕ) (p : Part)
-    → Stands s (part o (flatten bs ++ left)) → List·Memᴰ p (placed o bs) → Stands s p
-unfolding placed flatten
-placed-stands s o [] left p t m = absurd (List·Memᴰ·not-nil m)
-placed-stands s o (b ∷ bs) left p t m =
-    go (List·Memᴰ·cases-cons m) (placed-stands s (o + length b) bs left p (stands-second s o b (flatten bs ++ left) whole))
+pub offset-stands : (s : List ℕ) (o : ℕ) (bs : List (List ℕ)) (left : List ℕ) (p : Part)
+    → Stands s (part o (flatten bs ++ left)) → List·Memᴰ p (fromOffset o bs) → Stands s p
+unfolding fromOffset flatten
+offset-stands s o [] left p t m = absurd (List·Memᴰ·not-nil m)
+offset-stands s o (b ∷ bs) left p t m =
+    go (List·Memᴰ·cases-cons m) (offset-stands s (o + length b) bs left p (stands-second s o b (flatten bs ++ left) whole))
   where
     whole : Stands s (part o (b ++ (flatten bs ++ left)))
     whole = rw (← append-assoc b (flatten bs) left) t
 
-    go : (p ≡ part o b) ⊎ List·Memᴰ p (placed (o + length b) bs) → (List·Memᴰ p (placed (o + length b) bs) → Stands s p) → Stands s p
+    go : (p ≡ part o b) ⊎ List·Memᴰ p (fromOffset (o + length b) bs) → (List·Memᴰ p (fromOffset (o + length b) bs) → Stands s p) → Stands s p
     go (inl e) ih = rw e (stands-first s o b (flatten bs ++ left) whole)
     go (inr n) ih = ih n
 
--- without its first bytes a part stands as many places later
-pub stands-behind : (s : List ℕ) (p : Part) (k : ℕ) → k ≤ length (p .bytes) → Stands s p
+-- without its first bytes a part stands as many bytes later
+pub stands-after : (s : List ℕ) (p : Part) (k : ℕ) → k ≤ length (p .bytes) → Stands s p
     → Stands s (part (p .offset + k) (drop k (p .bytes)))
-stands-behind s p k h t =
+stands-after s p k h t =
     record {
       front = t .front ++ take k (p .bytes);
       back = t .back;
@@ -145,19 +145,7 @@ stands-behind s p k h t =
       offset = omega (arith, t .offset, length-append (t .front) (take k (p .bytes)), length-take-le k (p .bytes) h);
     }
 
--- a part that stands in the first c bytes stands in all of them
-pub stands-longer : (s : List ℕ) (c : ℕ) (p : Part) → Stands (take c s) p → Stands s p
-stands-longer s c p t =
-    record {
-      front = t .front;
-      back = t .back ++ drop c s;
-      is = sym (take-append-drop c s) ∙ ap (λ (l : List ℕ). l ++ drop c s) (t .is)
-          ∙ append-assoc (t .front) (p .bytes ++ t .back) (drop c s)
-          ∙ ap (λ (l : List ℕ). t .front ++ l) (append-assoc (p .bytes) (t .back) (drop c s));
-      offset = t .offset;
-    }
-
--- its bytes are those that stand at its place
+-- its bytes are those that stand at its offset
 pub stands-bytes : (s : List ℕ) (p : Part) (n : ℕ) → length (p .bytes) ≡ n → Stands s p → take n (drop (p .offset) s) ≡ p .bytes
 stands-bytes s p n e t =
     ap (λ (l : List ℕ). take n (drop (p .offset) l)) (t .is)

@@ -9,7 +9,7 @@ use lib.Dec.{lit<, lit≤}
 use lib.ListN.{length}
 use Rattle.wire.specs.Bytes.{bytesOf}
 use Rattle.rules.specs.Section.{sealed}
-use Rattle.notification_rules.specs.declared.Notice.{Notice}
+use Rattle.notification_rules.specs.declared.Finding.{Finding}
 use Rattle.notification_rules.specs.Format.{answerTo, bodyWritten, BothReached, Conforms, covered, Descriptor, Fits, FitsLoop, headWritten, Held, locationIn, locationTo, Loop, notificationWritten, one, Reached, sample, sampleDevice, sameWhere, targets}
 use Rattle.notification_rules.proofs.Answered.{written-is-found}
 
@@ -47,12 +47,12 @@ conforms ds f l =
       size = l;
     }
 
-reached : (ds : List Descriptor) (x : Notice) → Conforms (sample ds) → answerTo sampleDevice (sample ds) .notice ≡ x → Reached ds x
-reached ds x c e = (c, written-is-found sampleDevice (sample ds) c .notice ∙ e)
+reached : (ds : List Descriptor) (x : Finding) → Conforms (sample ds) → answerTo sampleDevice (sample ds) .finding ≡ x → Reached ds x
+reached ds x c e = (c, written-is-found sampleDevice (sample ds) c .finding ∙ e)
 
 -- a target loop of one descriptor
-alone : (d : Descriptor) (x : Notice) → Held d → length (bodyWritten d) < 2 ^ 8 → length (notificationWritten (sample (d ∷ []))) ≤ 4096
-    → answerTo sampleDevice (sample (d ∷ [])) .notice ≡ x → Reached (d ∷ []) x
+alone : (d : Descriptor) (x : Finding) → Held d → length (bodyWritten d) < 2 ^ 8 → length (notificationWritten (sample (d ∷ []))) ≤ 4096
+    → answerTo sampleDevice (sample (d ∷ [])) .finding ≡ x → Reached (d ∷ []) x
 alone d x h c l e = reached (d ∷ []) x (conforms (d ∷ []) (one-member Fits d (record { held = h; counted = c })) l) e
 
 abbrev Within : ℕ → Type 0

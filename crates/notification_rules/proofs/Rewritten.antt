@@ -21,9 +21,9 @@ use Rattle.rules.specs.Section.{crcOffset, currentNextIndicator, lastSectionNum
 use Rattle.rules.specs.Check.{sharedRefusal, sharedLines}
 use Rattle.rules.proofs.Read.{sealed-is}
 use Rattle.notification_rules.specs.Cut.{Size, cutOf, isNil, odd}
-use Rattle.notification_rules.specs.Loop.{actionType, body, bodyLength, content, descriptorPieces, descriptorSize, filled, loopCut, loopSize, platformIdHash, tag}
+use Rattle.notification_rules.specs.Loop.{actionType, body, bodyLength, content, descriptorItems, descriptorSize, filled, loopCut, loopSize, platformIdHash, tag}
 use Rattle.notification_rules.specs.Target.{rightLength}
-use Rattle.notification_rules.specs.Notice.{fits, known, misfit, notificationForm, otherAction, platformLines, loopLines, refusal, wrongHash}
+use Rattle.notification_rules.specs.Finding.{fits, known, misfit, notificationForm, otherAction, platformLines, loopLines, refusal, wrongHash}
 use Rattle.notification_rules.specs.Format.{Descriptor, masked, ranges, location, other, Loop, Notification, tagOf, rangeWritten, nineWritten, bodyWritten, descriptorWritten, contentWritten, loopWritten, loopsWritten, headWritten, notificationWritten, Held, Fits, FitsLoop, Conforms, Written}
 use Rattle.notification_rules.specs.Meaning.{byTurns, Filled, Short}
 use Rattle.notification_rules.proofs.Parts.{descriptor-long, every-one, loop-long, rejoined}
@@ -192,18 +192,18 @@ all-plain (d ∷ ds) l =
     ap₂ (λ (x y : List ℕ). x ++ y) (apart-is d (l d (List·Memᴰ·head refl))) (all-plain ds (λ e m. l e (List·Memᴰ·tail m)))
 
 -- ---- one loop
--- what a cut leaves nothing of is its pieces, joined
+-- what a cut leaves nothing of is its items, joined
 nil-is : (s : List ℕ) → isNil s ≡ true → s ≡ []
 nil-is [] h = refl
 nil-is (x ∷ s) h = absurd (never h)
 
-all-joined : (size : Size) (s : List ℕ) → isNil (cutOf size s .left) ≡ true → s ≡ flatten (cutOf size s .pieces)
+all-joined : (size : Size) (s : List ℕ) → isNil (cutOf size s .left) ≡ true → s ≡ flatten (cutOf size s .items)
 all-joined size s h =
-    sym (rejoined size s) ∙ ap (λ (l : List ℕ). flatten (cutOf size s .pieces) ++ l) (nil-is (cutOf size s .left) h)
-    ∙ append-nil (flatten (cutOf size s .pieces))
+    sym (rejoined size s) ∙ ap (λ (l : List ℕ). flatten (cutOf size s .items) ++ l) (nil-is (cutOf size s .left) h)
+    ∙ append-nil (flatten (cutOf size s .items))
 
 -- a loop as it is cut, filled by its descriptors
-record Piece (l : List ℕ) : Type 0 where
+record Item (l : List ℕ) : Type 0 where
   long : length l ≡ loopSize l
   full : filled (content l) ≡ true
 
@@ -211,7 +211,7 @@ record Piece (l : List ℕ) : Type 0 where
 abbrev loopOf : List ℕ → List Descriptor → Loop
 loopOf l ds = record { reserved4 = numberAt 2 l 0 / 2 ^ 12; descriptors = ds }
 
-loop-is : (l : List ℕ) → Bytes l → Piece l → (ds : List Descriptor) → contentWritten ds ≡ content l
+loop-is : (l : List ℕ) → Bytes l → Item l → (ds : List Descriptor) → contentWritten ds ≡ content l
     → (loopWritten (loopOf l ds) ≡ l) × Short (loopOf l ds) × (numberAt 2 l 0 / 2 ^ 12 < 2 ^ 4)
 unfolding loopSize
 loop-is l h p ds e =
@@ -226,25 +226,25 @@ loop-is l h p ds e =
       omega arith,
     )
 
-pieces-long : (l d : List ℕ) → List·Memᴰ d (descriptorPieces (content l)) → length d ≡ descriptorSize d
-pieces-long l d m = descriptor-long (content l) d m
+items-long : (l d : List ℕ) → List·Memᴰ d (descriptorItems (content l)) → length d ≡ descriptorSize d
+items-long l d m = descriptor-long (content l) d m
 
-joined : (l : List ℕ) → Piece l → content l ≡ flatten (descriptorPieces (content l))
+joined : (l : List ℕ) → Item l → content l ≡ flatten (descriptorItems (content l))
 unfolding filled
 joined l p = all-joined descriptorSize (content l) (p .full)
 
-plain-read : (l : List ℕ) → Bytes l → Piece l → Read loopWritten Short l
+plain-read : (l : List ℕ) → Bytes l → Item l → Read loopWritten Short l
 plain-read l h p =
-    let ds : List Descriptor = map (λ d. other (tag d) (body d)) (descriptorPieces (content l)) in
-    let r = loop-is l h p ds (all-plain (descriptorPieces (content l)) (pieces-long l) ∙ sym (joined l p)) in
+    let ds : List Descriptor = map (λ d. other (tag d) (body d)) (descriptorItems (content l)) in
+    let r = loop-is l h p ds (all-plain (descriptorItems (content l)) (items-long l) ∙ sym (joined l p)) in
     record { value = loopOf l ds; is = r .0; holds = r .1 }
 
-typed-read : (l : List ℕ) → Bytes l → Piece l × (known (content l) ≡ true) → Read loopWritten FitsLoop l
+typed-read : (l : List ℕ) → Bytes l → Item l × (known (content l) ≡ true) → Read loopWritten FitsLoop l
 unfolding known
 typed-read l h p =
-    let b : Bytes (flatten (descriptorPieces (content l))) = rw (joined l (p .0)) at (bytes-drop 2 l h) in
-    let ds = all-typed (descriptorPieces (content l)) (pieces-long l)
-    (λ d m. every-one (λ d. rightLength (tag d) (bodyLength d)) (descriptorPieces (content l)) d (p .1) m) b in
+    let b : Bytes (flatten (descriptorItems (content l))) = rw (joined l (p .0)) at (bytes-drop 2 l h) in
+    let ds = all-typed (descriptorItems (content l)) (items-long l)
+    (λ d m. every-one (λ d. rightLength (tag d) (bodyLength d)) (descriptorItems (content l)) d (p .1) m) b in
     let r = loop-is l h (p .0) (ds .value) (ds .is ∙ sym (joined l (p .0))) in
     record { value = loopOf l (ds .value); is = r .0; holds = record { reserved = r .2; descriptors = ds .holds } }
 
@@ -297,34 +297,34 @@ record Turned (good : Loop → Type 0) (b : List ℕ) : Type 0 where
 
 -- 32 does not apply
 module _ (s : List ℕ) (b : Bytes s) (f : fits (loopCut s) ≡ true) where
-  abbrev pieces : List (List ℕ)
-  pieces = loopCut s .pieces
+  abbrev items : List (List ℕ)
+  items = loopCut s .items
 
-  piece : (l : List ℕ) → List·Memᴰ l pieces → Piece l
+  item : (l : List ℕ) → List·Memᴰ l items → Item l
   unfolding fits loopCut
-  piece l m =
+  item l m =
       let parts = both-true _ _ (both-true _ _ f .1) in
       record {
         long = loop-long (drop 12 (take (crcOffset s) s)) l m;
-        full = every-one (λ l. filled (content l)) pieces l (parts .1) m;
+        full = every-one (λ l. filled (content l)) items l (parts .1) m;
       }
 
-  all-pieces : drop 12 (take (crcOffset s) s) ≡ flatten pieces
+  all-items : drop 12 (take (crcOffset s) s) ≡ flatten items
   unfolding fits loopCut
-  all-pieces = all-joined loopSize (drop 12 (take (crcOffset s) s)) (both-true _ _ f .0)
+  all-items = all-joined loopSize (drop 12 (take (crcOffset s) s)) (both-true _ _ f .0)
 
   turned : (P : List ℕ → Type 0) (good : Loop → Type 0) → ((l : List ℕ) → Bytes l → P l → Read loopWritten good l)
-      → ((l : List ℕ) → List·Memᴰ l pieces → P l) → Turned good (drop 12 (take (crcOffset s) s))
+      → ((l : List ℕ) → List·Memᴰ l items → P l) → Turned good (drop 12 (take (crcOffset s) s))
   unfolding fits
   turned P good one h =
       let parts = both-true _ _ (both-true _ _ f .1) in
-      let ls = loops-read P good one pieces h (rw all-pieces at (bytes-drop 12 (take (crcOffset s) s) (bytes-take (crcOffset s) s b))) in
+      let ls = loops-read P good one items h (rw all-items at (bytes-drop 12 (take (crcOffset s) s) (bytes-take (crcOffset s) s b))) in
       let ts = turns (ls .0) (sym (odd-map loopWritten (ls .0)) ∙ ap odd (ls .1) ∙ parts .0) in
       record {
         platform = ts .0;
         pairs = ts .1;
         is = loops-in (ts .0) (ts .1) ∙ ap (λ (xs : List Loop). flatten (map loopWritten xs)) (sym (ts .2))
-            ∙ ap (λ (ls : List (List ℕ)). flatten ls) (ls .1) ∙ sym all-pieces;
+            ∙ ap (λ (ls : List (List ℕ)). flatten ls) (ls .1) ∙ sym all-items;
         holds = rw (ts .2) at (ls .2);
       }
 
@@ -335,7 +335,7 @@ filled-exactly s b = (there, back)
   where
     there : misfit s ≡ false → Filled s
     there h =
-        let t = turned s b (not-false _ h) Piece Short plain-read (piece s b (not-false _ h)) in
+        let t = turned s b (not-false _ h) Item Short plain-read (item s b (not-false _ h)) in
         record {
           platform = t .platform;
           pairs = t .pairs;
@@ -346,7 +346,7 @@ filled-exactly s b = (there, back)
 
     back : Filled s → misfit s ≡ false
     back f =
-        let e : loopCut s ≡ record { pieces = map loopWritten (loopsIn (f .platform) (f .pairs)); left = [] } =
+        let e : loopCut s ≡ record { items = map loopWritten (loopsIn (f .platform) (f .pairs)); left = [] } =
         ap (cutOf loopSize) (sym (f .is))
         ∙ loops-back (f .platform) (f .pairs) (loops-all Short (f .platform) (f .pairs) (f .short) (f .shorts)) in
         rw (e, turns-odd (f .platform) (f .pairs), every-filled (loopsIn (f .platform) (f .pairs)))
@@ -371,7 +371,7 @@ head s p =
     }
 
 -- ---- a byte, by its bits
--- bit 7 is 1; x with y behind it gives section_length
+-- bit 7 is 1; x and y after it gives section_length
 lengthByte : (x y : ℕ) → x < 256 → y < 256 → x / 128 % 2 ≡ 1 → 2 ^ 7 + 2 ^ 4 * (x / 16 % 8) + (x * 256 + y) % 4096 / 256 % 16 ≡ x
 lengthByte x y hx hy h7 =
     let q7 : x / 128 ≡ 1 = omega arith in
@@ -406,8 +406,8 @@ module _ (s : List ℕ) (b : Bytes s) (p : refusal s ≡ 0) where
 
   t : Turned FitsLoop (drop 12 (take (crcOffset s) s))
   t =
-      turned s b (sound s p .fill) (λ l. Piece l × (known (content l) ≡ true)) FitsLoop typed-read
-      (λ l m. (piece s b (sound s p .fill) l m, every-one (λ l. known (content l)) (loopCut s .pieces) l (sound s p .right) m))
+      turned s b (sound s p .fill) (λ l. Item l × (known (content l) ≡ true)) FitsLoop typed-read
+      (λ l m. (item s b (sound s p .fill) l m, every-one (λ l. known (content l)) (loopCut s .items) l (sound s p .right) m))
 
   abbrev body-bytes : List ℕ
   body-bytes = drop 12 (take (crcOffset s) s)

@@ -1,4 +1,4 @@
--- A section that is not refused has none of the faults: each line of the table has a number, and none applies.
+-- A section that is not refused has no refusal: each line of the table has a number, and none applies.
 use Prim.Native.Nat.{ℕ}
 use native.Mathlib.Omega.{arith}
 use mathlib.Core.Path.{_≡_, refl}
@@ -11,7 +11,7 @@ use Rattle.rules.specs.Check.{sharedLines}
 use Rattle.rules.proofs.Check.{shared-numbered}
 use Rattle.notification_rules.specs.Cut.{every}
 use Rattle.notification_rules.specs.Loop.{loopCut, content}
-use Rattle.notification_rules.specs.Notice.{notificationForm, platformLines, loopLines, misfit, otherLength, fits, known, refusal}
+use Rattle.notification_rules.specs.Finding.{notificationForm, platformLines, loopLines, misfit, otherLength, fits, known, refusal}
 
 pub platform-numbered : (s : List ℕ) → without 0 (platformLines s) ≡ true
 unfolding without both platformLines
@@ -19,7 +19,7 @@ platform-numbered s = refl
 
 pub record Sound (s : List ℕ) : Type 0 where
   pub fill : fits (loopCut s) ≡ true
-  pub right : every (λ l. known (content l)) (loopCut s .pieces) ≡ true
+  pub right : every (λ l. known (content l)) (loopCut s .items) ≡ true
 
 pub sound : (s : List ℕ) → refusal s ≡ 0 → Sound s
 unfolding refusal loopLines misfit otherLength
@@ -31,5 +31,5 @@ sound s h =
     let t33 = none-first _ _ (omega arith) (t32 .1) in
     record {
       fill = not-false (fits (loopCut s)) (t32 .0);
-      right = not-false (every (λ l. known (content l)) (loopCut s .pieces)) (t33 .0);
+      right = not-false (every (λ l. known (content l)) (loopCut s .items)) (t33 .0);
     }

@@ -20,10 +20,10 @@ use Rattle.rules.proofs.Written.{sealed-length, sealed-right}
 use Rattle.notification_rules.specs.Cut.{Cut, cutOf, every, odd}
 use Rattle.notification_rules.specs.Loop.{actionType, platformIdHash, content, tag, bodyLength, descriptorSize, loopSize, loopCut, filled}
 use Rattle.notification_rules.specs.Target.{macAddress, macAddressRange, streamLocation, rightLength}
-use Rattle.notification_rules.specs.Notice.{notificationForm, otherAction, wrongHash, fits, misfit, known, otherLength, platformLines, loopLines, refusal}
+use Rattle.notification_rules.specs.Finding.{notificationForm, otherAction, wrongHash, fits, misfit, known, otherLength, platformLines, loopLines, refusal}
 use Rattle.notification_rules.specs.Format.{Descriptor, masked, ranges, location, other, Loop, Notification, tagOf, rangeWritten, bodyWritten, descriptorWritten, contentWritten, loopWritten, pairWritten, loopsWritten, headWritten, notificationWritten, Held, Fits, FitsLoop, Conforms}
 use Rattle.notification_rules.specs.Meaning.{byTurns, Short}
-use Rattle.notification_rules.proofs.Pieces.{descriptor-two, loop-two}
+use Rattle.notification_rules.proofs.Items.{descriptor-two, loop-two}
 use Rattle.notification_rules.proofs.Written.{cut-back}
 
 -- ---- lengths
@@ -77,7 +77,7 @@ loop-says l h s =
     ∙ numberAt-bytesOf 2 x [] (b ++ s) in
     rw (e, loop-long l) (omega arith)
 
-pub descriptors-cut : (ds : List Descriptor) → cutOf descriptorSize (contentWritten ds) ≡ record { pieces = map descriptorWritten ds; left = [] }
+pub descriptors-cut : (ds : List Descriptor) → cutOf descriptorSize (contentWritten ds) ≡ record { items = map descriptorWritten ds; left = [] }
 unfolding descriptorSize
 descriptors-cut ds =
     cut-back descriptorSize (λ s. omega (arith, descriptor-two s)) descriptorWritten (λ d. Unit {0})
@@ -94,7 +94,7 @@ loop-known : (l : Loop) → FitsLoop l → known (content (loopWritten l)) ≡ t
 unfolding known
 loop-known l f =
     ap known (loop-content l)
-    ∙ ap (λ (c : Cut). every (λ d. rightLength (tag d) (bodyLength d)) (c .pieces)) (descriptors-cut (l .descriptors))
+    ∙ ap (λ (c : Cut). every (λ d. rightLength (tag d) (bodyLength d)) (c .items)) (descriptors-cut (l .descriptors))
     ∙ every-right (l .descriptors) (f .descriptors)
 
 loop-filled : (l : Loop) → filled (content (loopWritten l)) ≡ true
@@ -146,7 +146,7 @@ loops-all good platform pairs h hs l m = go (List·Memᴰ·cases-cons m)
 
 -- loops by turns are cut back
 pub loops-back : (platform : Loop) (pairs : List (Loop × Loop)) → ((l : Loop) → List·Memᴰ l (loopsIn platform pairs) → Short l)
-    → cutOf loopSize (loopsWritten platform pairs) ≡ record { pieces = map loopWritten (loopsIn platform pairs); left = [] }
+    → cutOf loopSize (loopsWritten platform pairs) ≡ record { items = map loopWritten (loopsIn platform pairs); left = [] }
 loops-back platform pairs h =
     ap (cutOf loopSize) (loops-in platform pairs)
     ∙ cut-back loopSize (λ s. omega (arith, loop-two s)) loopWritten Short loop-says (loopsIn platform pairs) h
@@ -207,7 +207,7 @@ module _ (n : Notification) (t : Conforms n) where
   fit : (l : Loop) → List·Memᴰ l all → FitsLoop l
   fit = loops-all FitsLoop (n .platform) (n .pairs) (t .platform) (t .pairs)
 
-  pub loops-cut : loopCut s ≡ record { pieces = map loopWritten all; left = [] }
+  pub loops-cut : loopCut s ≡ record { items = map loopWritten all; left = [] }
   unfolding loopCut notificationWritten sealed
   loops-cut =
       let a : length ((head ++ loops) ++ crc) - 4 ≡ length (head ++ loops) =

@@ -13,9 +13,9 @@ use Rattle.wire.specs.Bytes.{Bytes, bytesOf, bit, bits}
 use Rattle.wire.specs.Part.{Part, part}
 use Rattle.rules.specs.declared.Address.{Address}
 use Rattle.rules.specs.Section.{sealed}
-use Rattle.notification_rules.specs.declared.Notice.{Notice}
-use Rattle.notification_rules.specs.declared.Notice.the-variants.{Found, Nobody, Refused}
-use Rattle.notification_rules.specs.Notice.{noticeNumber, noticeOf, noticePlace, partOf}
+use Rattle.notification_rules.specs.declared.Finding.{Finding}
+use Rattle.notification_rules.specs.declared.Finding.the-variants.{Found, Nobody, Refused}
+use Rattle.notification_rules.specs.Finding.{findingNumber, findingOf, findingOffset, partOf}
 
 -- ---- what a section holds
 -- table 32
@@ -39,7 +39,7 @@ pub record Loop : Type 0 where
   pub reserved4 : ℕ
   pub descriptors : List Descriptor
 
--- the values that table 13 leaves open, in its order: the three bits of byte 1 behind section_syntax_indicator and two of byte 5 are any;
+-- the values that table 13 leaves open, in its order: the three bits of byte 1 after section_syntax_indicator and two of byte 5 are any;
 -- a pair is a target loop and its operational loop
 pub record Notification : Type 0 where
   pub reserved3 : ℕ
@@ -180,7 +180,7 @@ covered device [] = true
 covered device (d ∷ ds) = one (targets device) (d ∷ ds)
 
 -- ---- where a pair's location is
--- the first 0x13 of descriptors that stand from o on: its nine bytes stand behind tag and length
+-- the first 0x13 of descriptors that stand from o on: its nine bytes stand after tag and length
 unfoldable pub locationIn : ℕ → List Descriptor → Option Part
 locationIn o [] = none
 locationIn o (d ∷ ds) = cond (eqb (tagOf d) 0x13) (some (part (o + 2) (bodyWritten d))) (locationIn (o + length (descriptorWritten d)) ds)
@@ -194,23 +194,23 @@ locationTo device platform o (p ∷ ps) =
     (orElse (locationIn (o + length (loopWritten (p .0)) + 2) (p .1 .descriptors)) platform) none)
     (locationTo device platform (o + length (pairWritten p)) ps)
 
--- ---- what a device is answered: a notice, its number, and a part of the section
+-- ---- what a device is answered: a finding, its number, and a part of the section
 pub record Answer : Type 0 where
-  pub notice : Notice
+  pub finding : Finding
   pub number : ℕ
   pub given : Part
 
 -- "3 found, with the nine bytes, or 4 nobody. All but 3 hand back an empty part"
 abbrev pub foundAt : Part → Answer
-foundAt p = record { notice = Found (p .offset); number = 3; given = p }
+foundAt p = record { finding = Found (p .offset); number = 3; given = p }
 
 abbrev pub foundNobody : Answer
-foundNobody = record { notice = Nobody; number = 4; given = part 0 [] }
+foundNobody = record { finding = Nobody; number = 4; given = part 0 [] }
 
 abbrev pub refusedWith : ℕ → Answer
-refusedWith k = record { notice = Refused k; number = k; given = part 0 [] }
+refusedWith k = record { finding = Refused k; number = k; given = part 0 [] }
 
--- the platform loop stands at 12, behind it the pairs
+-- the platform loop stands at 12, after it the pairs
 unfoldable pub answerTo : Address → Notification → Answer
 answerTo device n =
     Option·elim
@@ -220,10 +220,10 @@ answerTo device n =
 -- ---- theorems
 -- what the reader has for a section is this answer
 pub record Gives (device : Address) (s : List ℕ) (x : Answer) : Type 0 where
-  pub notice : noticeOf device s ≡ x .notice
-  pub number : noticeNumber (noticeOf device s) ≡ x .number
-  pub offset : noticePlace (noticeOf device s) ≡ x .given .offset
-  pub given : partOf s (noticeOf device s) ≡ x .given
+  pub finding : findingOf device s ≡ x .finding
+  pub number : findingNumber (findingOf device s) ≡ x .number
+  pub offset : findingOffset (findingOf device s) ≡ x .given .offset
+  pub given : partOf s (findingOf device s) ≡ x .given
 
 -- what is written is answered as its pairs say
 abbrev pub WrittenIsFound : Type 0
@@ -237,7 +237,7 @@ SectionIsBytes = (n : Notification) → Conforms n → Bytes (notificationWritte
 abbrev pub TakenExactly : Type 0
 TakenExactly =
     (device : Address) (s : List ℕ) → Bytes s
-    → ((noticeNumber (noticeOf device s) ≡ 3) ⊎ (noticeNumber (noticeOf device s) ≡ 4)) ↔ Written s
+    → ((findingNumber (findingOf device s) ≡ 3) ⊎ (findingNumber (findingOf device s) ≡ 4)) ↔ Written s
 
 -- any number but 3 hands back nothing
 pub record Nothing (device : Address) (s : List ℕ) (k : ℕ) : Type 0 where
@@ -245,7 +245,7 @@ pub record Nothing (device : Address) (s : List ℕ) (k : ℕ) : Type 0 where
   pub refused : k ≢ 3 → k ≢ 4 → Gives device s (refusedWith k)
 
 abbrev pub OthersGiveNothing : Type 0
-OthersGiveNothing = (device : Address) (s : List ℕ) → Nothing device s (noticeNumber (noticeOf device s))
+OthersGiveNothing = (device : Address) (s : List ℕ) → Nothing device s (findingNumber (findingOf device s))
 
 -- ---- and none of this is empty: one pair, this target loop and an operational loop with a location, for the device 02:00:5E:10:20:30
 abbrev pub sample : List Descriptor → Notification
@@ -272,8 +272,8 @@ sample target =
 abbrev pub sampleDevice : Address
 sampleDevice = record { mac1 = 0x02; mac2 = 0x00; mac3 = 0x5E; mac4 = 0x10; mac5 = 0x20; mac6 = 0x30 }
 
-abbrev pub Reached : List Descriptor → Notice → Type 0
-Reached target x = Conforms (sample target) × (noticeOf sampleDevice (notificationWritten (sample target)) ≡ x)
+abbrev pub Reached : List Descriptor → Finding → Type 0
+Reached target x = Conforms (sample target) × (findingOf sampleDevice (notificationWritten (sample target)) ≡ x)
 
 pub record BothReached : Type 0 where
   pub empty : Reached [] (Found 20)

@@ -1,6 +1,6 @@
 pub mod Cut
 pub mod Loop
 pub mod Target
-pub mod Notice
+pub mod Finding
 pub mod Format
 pub mod Meaning

@@ -2,11 +2,11 @@
 use Prim.Native.Nat.{ℕ, _+_, _%_, _^_}
 use mathlib.Core.Bool.{Bool}
 use mathlib.Core.List.{List, [], _∷_}
-use lib.ListN.{take, drop}
+use lib.ListN.{drop}
 use Rattle.wire.specs.Bytes.{byteAt, numberAt}
-use Rattle.rules.specs.Section.{crcOffset}
+use Rattle.rules.specs.Section.{checked}
 use Rattle.wire.specs.Part.{Part}
-use Rattle.notification_rules.specs.Cut.{Size, Cut, cutOf, placed, isNil}
+use Rattle.notification_rules.specs.Cut.{Size, Cut, cutOf, fromOffset, isNil}
 
 -- byte 3
 unfoldable pub actionType : List ℕ → ℕ
@@ -24,37 +24,33 @@ loopSize s = 2 + numberAt 2 s 0 % 2 ^ 12
 unfoldable pub descriptorSize : Size
 descriptorSize s = 2 + byteAt s 1
 
--- the bytes that the CRC_32 is of
-abbrev pub checked : List ℕ → List ℕ
-checked s = take (crcOffset s) s
-
 -- where the platform loop begins
-abbrev pub platformPlace : ℕ
-platformPlace = 12
+abbrev pub platformOffset : ℕ
+platformOffset = 12
 
 -- from the platform loop up to the CRC_32, cut into loops
 unfoldable pub loopCut : List ℕ → Cut
-loopCut s = cutOf loopSize (drop platformPlace (checked s))
+loopCut s = cutOf loopSize (drop platformOffset (checked s))
 
--- the loops, each at its place
+-- the loops, each at its offset
 unfoldable pub loopsOf : List ℕ → List Part
-loopsOf s = placed platformPlace (loopCut s .pieces)
+loopsOf s = fromOffset platformOffset (loopCut s .items)
 
 -- what a loop holds
 abbrev pub content : List ℕ → List ℕ
 content l = drop 2 l
 
 -- the descriptors of a loop, one by one
-abbrev pub descriptorPieces : List ℕ → List (List ℕ)
-descriptorPieces b = cutOf descriptorSize b .pieces
+abbrev pub descriptorItems : List ℕ → List (List ℕ)
+descriptorItems b = cutOf descriptorSize b .items
 
 -- its descriptors fill a loop exactly
 unfoldable pub filled : List ℕ → Bool
 filled b = isNil (cutOf descriptorSize b .left)
 
--- the descriptors of a loop, each at its place
+-- the descriptors of a loop, each at its offset
 unfoldable pub descriptorsOf : Part → List Part
-descriptorsOf l = placed (l .offset + 2) (descriptorPieces (content (l .bytes)))
+descriptorsOf l = fromOffset (l .offset + 2) (descriptorItems (content (l .bytes)))
 
 abbrev pub tag : List ℕ → ℕ
 tag d = byteAt d 0
@@ -71,7 +67,7 @@ pub record Pair : Type 0 where
   pub target : Part
   pub operational : Part
 
--- behind the platform loop, target and operational loop by turns
+-- after the platform loop, target and operational loop by turns
 unfoldable pub pairsOf : List Part → List Pair
 pairsOf [] = []
 pairsOf (t ∷ []) = []

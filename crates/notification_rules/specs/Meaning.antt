@@ -11,7 +11,7 @@ use Rattle.wire.specs.Meaning.{FirstThat, otherwise, Row, _means_}
 use Rattle.rules.specs.declared.Address.{Address}
 use Rattle.rules.specs.Meaning.{sharedRows}
 use Rattle.notification_rules.specs.Format.{answerTo, bodyWritten, contentWritten, Descriptor, Loop, loopsWritten, tagOf, Written}
-use Rattle.notification_rules.specs.Notice.{noticeNumber, noticeOf}
+use Rattle.notification_rules.specs.Finding.{findingNumber, findingOf}
 
 -- ---- 32: the bytes from 12 up to the CRC_32 are loops by turns, which descriptors of any length fill
 -- its length fits 12 bits
@@ -64,4 +64,4 @@ notificationRows device s =
 
 abbrev pub NotificationMeans : Type 0
 NotificationMeans =
-    (device : Address) (s : List ℕ) → Bytes s → (n : ℕ) → (noticeNumber (noticeOf device s) ≡ n) ↔ FirstThat n (notificationRows device s)
+    (device : Address) (s : List ℕ) → Bytes s → (n : ℕ) → (findingNumber (findingOf device s) ≡ n) ↔ FirstThat n (notificationRows device s)

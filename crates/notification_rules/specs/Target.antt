@@ -43,15 +43,15 @@ sameUnder device mask e =
 unfoldable pub inRange : Address → List ℕ → Bool
 inRange device e = both (leb (numberAt 6 e 0) (addressNumber device)) (leb (addressNumber device) (numberAt 6 e 6))
 
--- ---- the entries of a descriptor that targets: addresses behind the mask, or pairs of addresses; other tags have none
+-- ---- the entries of a descriptor that targets: addresses after the mask, or pairs of addresses; other tags have none
 unfoldable pub entrySize : ℕ → ℕ
 entrySize t = pick (eqb t macAddress) 6 12
 
 unfoldable pub entryBytes : List ℕ → List ℕ
 entryBytes d = pick (eqb (tag d) macAddress) (drop 8 d) (pick (eqb (tag d) macAddressRange) (drop 2 d) [])
 
-abbrev pub entryPieces : List ℕ → List (List ℕ)
-entryPieces d = cutOf (λ _. entrySize (tag d)) (entryBytes d) .pieces
+abbrev pub entryItems : List ℕ → List (List ℕ)
+entryItems d = cutOf (λ _. entrySize (tag d)) (entryBytes d) .items
 
 -- an entry of a descriptor covers the device
 unfoldable pub hit : Address → List ℕ → List ℕ → Bool
@@ -59,9 +59,9 @@ hit device d e = pick (eqb (tag d) macAddress) (sameUnder device (body d) e) (in
 
 -- ---- a descriptor covers the device
 unfoldable pub covers : Address → List ℕ → Bool
-covers device d = any (hit device d) (entryPieces d)
+covers device d = any (hit device d) (entryItems d)
 
--- nobody, or the place of the tag of the first descriptor that covers the device; 0 where the loop is empty and covers all
+-- nobody, or the offset of the tag of the first descriptor that covers the device; 0 where the loop is empty and covers all
 pub data Cover : Type 0 where
   nobody : Cover
   by : ℕ → Cover
@@ -80,19 +80,19 @@ isCover (by o) = true
 -- ---- nowhere, or the first stream location descriptor of a loop
 pub data Location : Type 0 where
   nowhere : Location
-  at : Part → Location
+  somewhere : Part → Location
 
 unfoldable pub located : List Part → Location
 located [] = nowhere
-located (d ∷ ds) = pick (eqb (tag (d .bytes)) streamLocation) (at d) (located ds)
+located (d ∷ ds) = pick (eqb (tag (d .bytes)) streamLocation) (somewhere d) (located ds)
 
 unfoldable pub isLocation : Location → Bool
 isLocation nowhere = false
-isLocation (at d) = true
+isLocation (somewhere d) = true
 
 unfoldable pub orElse : Location → Location → Location
 orElse nowhere l = l
-orElse (at d) l = at d
+orElse (somewhere d) l = somewhere d
 
 -- a pair's location: the first of its operational loop, else the first of the platform loop
 unfoldable pub locationOf : Part → Pair → Location

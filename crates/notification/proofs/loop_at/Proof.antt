@@ -1,6 +1,6 @@
--- The loop at the place begins with its two length bytes.
+-- The loop at the offset begins with its two length bytes.
 use Rattle.notification.proofs.Pairs.{content-at, content-length}
-use Rattle.notification_rules.proofs.Pieces.{loop-two}
+use Rattle.notification_rules.proofs.Items.{loop-two}
 use Rattle.wire.proofs.Lists.{from}
 use Rattle.notification_rules.specs.Loop.{loopSize}
 use denote.Ref.{now}
@@ -32,29 +32,29 @@ add-result-2 c = search needs
 
 sub-result : tie.Need-sub-result
 sub-result c = let a = c .before .before .before .args in
-    let e : c .loop-size .result ≡ loopSize (drop (a .at) (now (a .s))) = c .loop-size .ensures .is
-    ∙ rw (from (a .at) (now (a .s))) in
-    omega (arith, loop-two (drop (a .at) (now (a .s))))
+    let e : c .loop-size .result ≡ loopSize (drop (a .offset) (now (a .s))) = c .loop-size .ensures .is
+    ∙ rw (from (a .offset) (now (a .s))) in
+    omega (arith, loop-two (drop (a .offset) (now (a .s))))
 
 part-result-start : tie.Need-part-result-start
 part-result-start c = let a = c .before .before .before .args in
-    let e : c .loop-size .result ≡ loopSize (drop (a .at) (now (a .s))) = c .loop-size .ensures .is
-    ∙ rw (from (a .at) (now (a .s))) in
-    omega (arith, loop-two (drop (a .at) (now (a .s))))
+    let e : c .loop-size .result ≡ loopSize (drop (a .offset) (now (a .s))) = c .loop-size .ensures .is
+    ∙ rw (from (a .offset) (now (a .s))) in
+    omega (arith, loop-two (drop (a .offset) (now (a .s))))
 
 part-result-end : tie.Need-part-result-end
 part-result-end c = let a = c .before .before .before .args in
-    let e : c .loop-size .result ≡ loopSize (drop (a .at) (now (a .s))) = c .loop-size .ensures .is
-    ∙ rw (from (a .at) (now (a .s))) in
+    let e : c .loop-size .result ≡ loopSize (drop (a .offset) (now (a .s))) = c .loop-size .ensures .is
+    ∙ rw (from (a .offset) (now (a .s))) in
     omega (arith, c .before .before .before .pre)
 
 returns : tie.Need-returns
 returns c = let a = c .before .before .before .before .args in
     let n = c .before .loop-size .result in
-    let e : n ≡ loopSize (drop (a .at) (now (a .s))) = c .before .loop-size .ensures .is ∙ rw (from (a .at) (now (a .s))) in
+    let e : n ≡ loopSize (drop (a .offset) (now (a .s))) = c .before .loop-size .ensures .is ∙ rw (from (a .offset) (now (a .s))) in
     record {
-      is = record { bytes = content-at (now (a .s)) (a .at) n e; block = refl; offset = refl };
-      size = content-length (now (a .s)) (a .at) n e (c .before .before .before .before .pre);
+      is = record { bytes = content-at (now (a .s)) (a .offset) n e; block = refl; offset = refl };
+      size = content-length (now (a .s)) (a .offset) n e (c .before .before .before .before .pre);
     }
 
 pub loop-at-spec : {M : Type 1} → statement M

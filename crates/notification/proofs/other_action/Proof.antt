@@ -1,6 +1,6 @@
 -- The code computes the definition.
 use Rattle.notification_rules.specs.Loop.{actionType}
-use Rattle.notification_rules.specs.Notice.{otherAction}
+use Rattle.notification_rules.specs.Finding.{otherAction}
 use borrow.Author.Needs.{needs}
 use Rattle.notification.proofs.other_action.Statement.{statement}
 use Rattle.notification.proofs.other_action.Tie as tie

@@ -1,18 +1,12 @@
--- The table is decided in parts: 12 to 18, then 30 and 31, then 32 and 33, which the readers of the loops give.
+-- The table is decided in parts: 12 to 18, then 30 and 31, then 32 and 33.
 use Rattle.notification_rules.proofs.Sound.{platform-numbered}
-use Rattle.notification.proofs.Faults.{loops-told}
-use Rattle.notification.specs.Readers.{loopFault}
-use Rattle.notification_rules.specs.Notice.{notificationForm, platformLines, refusal}
+use Rattle.notification_rules.specs.Finding.{notificationForm, platformLines, refusal}
 use Rattle.rules.proofs.Check.{fault-numbered}
 use Rattle.rules.specs.Check.{sharedLines, fault}
 use Rattle.rules.specs.declared.Form.{Form}
 use Rattle.wire.proofs.Choice.{firstOf-here, firstOf-past, was}
 use denote.Ref.{now}
-use lib.ListN.{drop}
-use mathlib.Core.List.{List}
-use mathlib.Core.Bool.{true, false}
 use mathlib.Core.Path.{sym, ap, _∙_}
-use Prim.Native.Nat.{ℕ}
 use borrow.Author.Needs.{needs}
 use Rattle.notification.proofs.refusal.Statement.{statement}
 use Rattle.notification.proofs.refusal.Tie as tie
@@ -43,28 +37,18 @@ returns-2 c = let s = now (c .before .before .before .before .before .before .ar
     ∙ sym (firstOf-past (sharedLines notificationForm s) _ (fault-numbered notificationForm s)
     (was e (c .before .before .if1 .left)))
 
-checked-requires : tie.Need-checked-requires
-checked-requires c κs = search needs
-
-behind-requires : tie.Need-behind-requires
-behind-requires c κs = search needs
-
-operational-loop-requires : tie.Need-operational-loop-requires
-operational-loop-requires c κs = search needs
+loops-refusal-requires : tie.Need-loops-refusal-requires
+loops-refusal-requires c κs = search needs
 
 returns-3 : tie.Need-returns-3
 unfolding fault refusal
-returns-3 c = let s = now (c .before .before .before .before .before .before .before .before .before .args .s) in
-    let f = c .before .before .before .before .before .before in
+returns-3 c = let s = now (c .before .before .before .before .before .before .before .args .s) in
+    let f = c .before .before .before .before in
     let e = f .fault .ensures ∙ ap (λ (f : Form). fault f s) (f .before .notification-form .ensures) in
-    let p = c .before .before .before .before .platform-refusal .ensures in
-    c .operational-loop .ensures
-    ∙ ap (λ (l : List ℕ). loopFault true l false) (c .before .behind .ensures .bytes
-    ∙ ap (λ (l : List ℕ). drop 12 l) (c .before .before .checked .ensures .bytes))
-    ∙ loops-told s
-    ∙ sym (firstOf-past (platformLines s) _ (platform-numbered s) (was p (c .before .before .before .if2 .left)))
-    ∙ sym (firstOf-past (sharedLines notificationForm s) _ (fault-numbered notificationForm s)
-    (was e (c .before .before .before .before .before .if1 .left)))
+    let p = c .before .before .platform-refusal .ensures in
+    c .loops-refusal .ensures
+    ∙ sym (firstOf-past (platformLines s) _ (platform-numbered s) (was p (c .before .if2 .left)))
+    ∙ sym (firstOf-past (sharedLines notificationForm s) _ (fault-numbered notificationForm s) (was e (c .before .before .before .if1 .left)))
 
 pub refusal-spec : {M : Type 1} → statement M
 refusal-spec =
@@ -75,7 +59,5 @@ refusal-spec =
     returns
     platform-refusal-requires
     returns-2
-    checked-requires
-    behind-requires
-    operational-loop-requires
+    loops-refusal-requires
     returns-3)

@@ -1,6 +1,6 @@
 -- The code computes the definition.
 use Rattle.notification_rules.specs.Loop.{platformIdHash}
-use Rattle.notification_rules.specs.Notice.{wrongHash}
+use Rattle.notification_rules.specs.Finding.{wrongHash}
 use borrow.Author.Needs.{needs}
 use Rattle.notification.proofs.wrong_hash.Statement.{statement}
 use Rattle.notification.proofs.wrong_hash.Tie as tie

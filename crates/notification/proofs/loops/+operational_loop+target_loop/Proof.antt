@@ -1,7 +1,7 @@
 -- The loop at the front, and the rest, which is shorter by at least two bytes.
-use Rattle.notification_rules.proofs.Pieces.{loop-two}
+use Rattle.notification_rules.proofs.Items.{loop-two}
 use Rattle.wire.proofs.Lists.{from}
-use Rattle.notification.proofs.Faults.{loops-end, loops-short, loops-missing, loops-bad, loops-on}
+use Rattle.notification.proofs.Fits.{loops-end, loops-short, loops-missing, loops-on}
 use mathlib.Core.Bool.{true, false}
 use denote.Ref.{now}
 use mathlib.Core.Path.{_∙_}
@@ -19,7 +19,6 @@ use Rattle.notification.proofs.loops.target_loop.Kinds as target-loop-k
 use Rattle.notification.proofs.loops.+operational_loop+target_loop.Lts-target_loop as target-loop-lts
 use Rattle.notification.proofs.loops.descriptor_loop.Reads as descriptor-loop-reads
 use Rattle.notification.proofs.loops.loop_size.Reads as loop-size-reads
-use Rattle.wire.proofs.first.Reads as first-reads
 use Rattle.notification.proofs.loops.+operational_loop+target_loop.{statement}
 use Rattle.notification.proofs.loops.+operational_loop+target_loop.Tie.{close}
 
@@ -53,397 +52,137 @@ abbrev target-loop-below : ℕ → In 1 target-loop-kinds.ps
 target-loop-below t =
     and 1 target-loop-kinds.ps (falls 1 target-loop-kinds.ps _<_ μ-target-loop t) target-loop.Pre
 
-operational-loop-loop-size-requires : (t : ℕ) → operational-loop-lts.Need-loop-size-requires (
+abbrev operational-loop-claims : ℕ → operational-loop-lts.Claims
+operational-loop-claims t = (
   loop-size-reads.Asked,
   loop-size-reads.Learnt,
   descriptor-loop-reads.Asked,
   descriptor-loop-reads.Learnt,
   target-loop-below t,
   target-loop.Post,
-) (operational-loop-at t) operational-loop.Post
+)
+
+abbrev target-loop-claims : ℕ → target-loop-lts.Claims
+target-loop-claims t = (
+  loop-size-reads.Asked,
+  loop-size-reads.Learnt,
+  descriptor-loop-reads.Asked,
+  descriptor-loop-reads.Learnt,
+  operational-loop-below t,
+  operational-loop.Post,
+)
+
+operational-loop-loop-size-requires : (t : ℕ) → operational-loop-lts.Need-loop-size-requires (operational-loop-claims t) (operational-loop-at t) operational-loop.Post
 operational-loop-loop-size-requires t c κs = search needs
 
-operational-loop-returns : (t : ℕ) → operational-loop-lts.Need-returns (
-  loop-size-reads.Asked,
-  loop-size-reads.Learnt,
-  descriptor-loop-reads.Asked,
-  descriptor-loop-reads.Learnt,
-  target-loop-below t,
-  target-loop.Post,
-) (operational-loop-at t) operational-loop.Post
-operational-loop-returns t c = let a = c .before .before .before .args in
-    loops-missing (now (a .s)) (a .other) _ (c .before .loop-size .ensures .is) (c .if1 .taken)
+operational-loop-returns : (t : ℕ) → operational-loop-lts.Need-returns (operational-loop-claims t) (operational-loop-at t) operational-loop.Post
+operational-loop-returns t c = loops-missing (now (c .before .before .before .args .s)) _ _ (c .before .loop-size .ensures .is) (c .if1 .taken)
 
-operational-loop-sub-descriptor-loop : (t : ℕ) → operational-loop-lts.Need-sub-descriptor-loop (
-  loop-size-reads.Asked,
-  loop-size-reads.Learnt,
-  descriptor-loop-reads.Asked,
-  descriptor-loop-reads.Learnt,
-  target-loop-below t,
-  target-loop.Post,
-) (operational-loop-at t) operational-loop.Post
-operational-loop-sub-descriptor-loop t c = omega (
-  arith,
-  loop-two
-      (now (c .before .before .before .args .s)),
-  c .before .loop-size .ensures .is,
-)
-
-operational-loop-part-descriptor-loop-start :
-    (t : ℕ) → operational-loop-lts.Need-part-descriptor-loop-start (
-      loop-size-reads.Asked,
-      loop-size-reads.Learnt,
-      descriptor-loop-reads.Asked,
-      descriptor-loop-reads.Learnt,
-      target-loop-below t,
-      target-loop.Post,
-    ) (operational-loop-at t) operational-loop.Post
-operational-loop-part-descriptor-loop-start t c = omega (
-  arith,
-  loop-two
-      (now (c .before .before .before .args .s)),
-  c .before .loop-size .ensures .is,
-)
-
-operational-loop-part-descriptor-loop-end :
-    (t : ℕ) → operational-loop-lts.Need-part-descriptor-loop-end (
-      loop-size-reads.Asked,
-      loop-size-reads.Learnt,
-      descriptor-loop-reads.Asked,
-      descriptor-loop-reads.Learnt,
-      target-loop-below t,
-      target-loop.Post,
-    ) (operational-loop-at t) operational-loop.Post
-operational-loop-part-descriptor-loop-end t c = search needs
-
-operational-loop-descriptor-loop-requires :
-    (t : ℕ) → operational-loop-lts.Need-descriptor-loop-requires (
-      loop-size-reads.Asked,
-      loop-size-reads.Learnt,
-      descriptor-loop-reads.Asked,
-      descriptor-loop-reads.Learnt,
-      target-loop-below t,
-      target-loop.Post,
-    ) (operational-loop-at t) operational-loop.Post
-operational-loop-descriptor-loop-requires t c κs = search needs
-
-operational-loop-returns-2 : (t : ℕ) → operational-loop-lts.Need-returns-2 (
-  loop-size-reads.Asked,
-  loop-size-reads.Learnt,
-  descriptor-loop-reads.Asked,
-  descriptor-loop-reads.Learnt,
-  target-loop-below t,
-  target-loop.Post,
-) (operational-loop-at t) operational-loop.Post
-operational-loop-returns-2 t c = let a = c .before .before .before .before .before .before .args in
-    c .if2 .taken ∙ loops-bad true (now (a .s)) (a .other) _ _ (c .before .before .before .before .loop-size .ensures .is)
-    (omega arith) (c .before .descriptor-loop .ensures) (c .if2 .taken)
-
-operational-loop-sub-target-loop : (t : ℕ) → operational-loop-lts.Need-sub-target-loop (
-  loop-size-reads.Asked,
-  loop-size-reads.Learnt,
-  descriptor-loop-reads.Asked,
-  descriptor-loop-reads.Learnt,
-  target-loop-below t,
-  target-loop.Post,
-) (operational-loop-at t) operational-loop.Post
+operational-loop-sub-target-loop : (t : ℕ) → operational-loop-lts.Need-sub-target-loop (operational-loop-claims t) (operational-loop-at t) operational-loop.Post
 operational-loop-sub-target-loop t c = search needs
 
 operational-loop-part-target-loop-start :
-    (t : ℕ) → operational-loop-lts.Need-part-target-loop-start (
-      loop-size-reads.Asked,
-      loop-size-reads.Learnt,
-      descriptor-loop-reads.Asked,
-      descriptor-loop-reads.Learnt,
-      target-loop-below t,
-      target-loop.Post,
-    ) (operational-loop-at t) operational-loop.Post
+    (t : ℕ) → operational-loop-lts.Need-part-target-loop-start (operational-loop-claims t) (operational-loop-at t) operational-loop.Post
 operational-loop-part-target-loop-start t c = search needs
 
-operational-loop-part-target-loop-end : (t : ℕ) → operational-loop-lts.Need-part-target-loop-end (
-  loop-size-reads.Asked,
-  loop-size-reads.Learnt,
-  descriptor-loop-reads.Asked,
-  descriptor-loop-reads.Learnt,
-  target-loop-below t,
-  target-loop.Post,
-) (operational-loop-at t) operational-loop.Post
+operational-loop-part-target-loop-end : (t : ℕ) → operational-loop-lts.Need-part-target-loop-end (operational-loop-claims t) (operational-loop-at t) operational-loop.Post
 operational-loop-part-target-loop-end t c = search needs
 
-operational-loop-target-loop-requires : (t : ℕ) → operational-loop-lts.Need-target-loop-requires (
-  loop-size-reads.Asked,
-  loop-size-reads.Learnt,
-  descriptor-loop-reads.Asked,
-  descriptor-loop-reads.Learnt,
-  target-loop-below t,
-  target-loop.Post,
-) (operational-loop-at t) operational-loop.Post
+operational-loop-sub-descriptor-loop : (t : ℕ) → operational-loop-lts.Need-sub-descriptor-loop (operational-loop-claims t) (operational-loop-at t) operational-loop.Post
+operational-loop-sub-descriptor-loop t c = omega (arith, loop-two (now (c .before .before .before .before .args .s)), c .before .before .loop-size .ensures .is)
+
+operational-loop-part-descriptor-loop-start :
+    (t : ℕ) → operational-loop-lts.Need-part-descriptor-loop-start (operational-loop-claims t) (operational-loop-at t) operational-loop.Post
+operational-loop-part-descriptor-loop-start t c = omega (arith, loop-two (now (c .before .before .before .before .args .s)), c .before .before .loop-size .ensures .is)
+
+operational-loop-part-descriptor-loop-end :
+    (t : ℕ) → operational-loop-lts.Need-part-descriptor-loop-end (operational-loop-claims t) (operational-loop-at t) operational-loop.Post
+operational-loop-part-descriptor-loop-end t c = search needs
+
+operational-loop-descriptor-loop-requires :
+    (t : ℕ) → operational-loop-lts.Need-descriptor-loop-requires (operational-loop-claims t) (operational-loop-at t) operational-loop.Post
+operational-loop-descriptor-loop-requires t c κs = search needs
+
+operational-loop-target-loop-requires : (t : ℕ) → operational-loop-lts.Need-target-loop-requires (operational-loop-claims t) (operational-loop-at t) operational-loop.Post
 operational-loop-target-loop-requires t c κs = (
-  rw from (simp length-drop
-      (omega (
-        arith,
-        loop-two (now (c .before .before .before .before .before .before .before .args .s)),
-        c .before .before
-            .before .before .before .loop-size .ensures .is,
-      ))),
+  rw from (simp length-drop (omega (arith, loop-two (now (c .before .before .before .before .before .before .args .s)), c .before .before .before .before .loop-size .ensures .is))),
   tt,
 )
 
-operational-loop-returns-3 : (t : ℕ) → operational-loop-lts.Need-returns-3 (
-  loop-size-reads.Asked,
-  loop-size-reads.Learnt,
-  descriptor-loop-reads.Asked,
-  descriptor-loop-reads.Learnt,
-  target-loop-below t,
-  target-loop.Post,
-) (operational-loop-at t) operational-loop.Post
-operational-loop-returns-3 t c = let a = c .before .before .before .before .before .before .before .before .args in
-    c .target-loop .ensures
-    ∙ loops-on true (now (a .s)) (a .other) _ _ (c .before .before .before .before .before .before .loop-size .ensures .is)
-    (omega arith) (c .before .before .before .descriptor-loop .ensures) (c .before .before .if2 .left)
+operational-loop-returns-2 : (t : ℕ) → operational-loop-lts.Need-returns-2 (operational-loop-claims t) (operational-loop-at t) operational-loop.Post
+operational-loop-returns-2 t c = c .target-loop .ensures
+    ∙ loops-on true (now (c .before .before .before .before .before .before .before .args .s)) _ _ _ (c .before .before .before .before .before .loop-size .ensures .is) (omega arith) (c .before .descriptor-loop .ensures)
 
-target-loop-first-requires : (t : ℕ) → target-loop-lts.Need-first-requires (
-  first-reads.Asked,
-  first-reads.Learnt,
-  loop-size-reads.Asked,
-  loop-size-reads.Learnt,
-  descriptor-loop-reads.Asked,
-  descriptor-loop-reads.Learnt,
-  operational-loop-below t,
-  operational-loop.Post,
-) (target-loop-at t) target-loop.Post
-target-loop-first-requires t c κs = search needs
+target-loop-returns : (t : ℕ) → target-loop-lts.Need-returns (target-loop-claims t) (target-loop-at t) target-loop.Post
+target-loop-returns t c = loops-end (now (c .before .before .args .s)) _ (c .if1 .taken)
 
-target-loop-returns : (t : ℕ) → target-loop-lts.Need-returns (
-  first-reads.Asked,
-  first-reads.Learnt,
-  loop-size-reads.Asked,
-  loop-size-reads.Learnt,
-  descriptor-loop-reads.Asked,
-  descriptor-loop-reads.Learnt,
-  operational-loop-below t,
-  operational-loop.Post,
-) (target-loop-at t) target-loop.Post
-target-loop-returns t c = c .first .ensures ∙ loops-end (now (c .before .before .before .args .s))
-    (c .before .before .before .args .other) (c .before .if1 .taken)
-
-target-loop-loop-size-requires : (t : ℕ) → target-loop-lts.Need-loop-size-requires (
-  first-reads.Asked,
-  first-reads.Learnt,
-  loop-size-reads.Asked,
-  loop-size-reads.Learnt,
-  descriptor-loop-reads.Asked,
-  descriptor-loop-reads.Learnt,
-  operational-loop-below t,
-  operational-loop.Post,
-) (target-loop-at t) target-loop.Post
+target-loop-loop-size-requires : (t : ℕ) → target-loop-lts.Need-loop-size-requires (target-loop-claims t) (target-loop-at t) target-loop.Post
 target-loop-loop-size-requires t c κs = search needs
 
-target-loop-returns-2 : (t : ℕ) → target-loop-lts.Need-returns-2 (
-  first-reads.Asked,
-  first-reads.Learnt,
-  loop-size-reads.Asked,
-  loop-size-reads.Learnt,
-  descriptor-loop-reads.Asked,
-  descriptor-loop-reads.Learnt,
-  operational-loop-below t,
-  operational-loop.Post,
-) (target-loop-at t) target-loop.Post
-target-loop-returns-2 t c = let a = c .before .before .before .before .args in
-    loops-short (now (a .s)) (a .other) _ (c .before .loop-size .ensures .is) (c .before .before .if1 .left) (c .if2 .taken)
+target-loop-returns-2 : (t : ℕ) → target-loop-lts.Need-returns-2 (target-loop-claims t) (target-loop-at t) target-loop.Post
+target-loop-returns-2 t c = loops-short (now (c .before .before .before .before .args .s)) _ _ (c .before .loop-size .ensures .is) (c .before .before .if1 .left)
+    (c .if2 .taken)
 
-target-loop-sub-descriptor-loop : (t : ℕ) → target-loop-lts.Need-sub-descriptor-loop (
-  first-reads.Asked,
-  first-reads.Learnt,
-  loop-size-reads.Asked,
-  loop-size-reads.Learnt,
-  descriptor-loop-reads.Asked,
-  descriptor-loop-reads.Learnt,
-  operational-loop-below t,
-  operational-loop.Post,
-) (target-loop-at t) target-loop.Post
-target-loop-sub-descriptor-loop t c = omega (
-  arith,
-  loop-two
-      (now (c .before .before .before .before .args .s)),
-  c .before .loop-size .ensures .is,
-)
-
-target-loop-part-descriptor-loop-start : (t : ℕ) → target-loop-lts.Need-part-descriptor-loop-start (
-  first-reads.Asked,
-  first-reads.Learnt,
-  loop-size-reads.Asked,
-  loop-size-reads.Learnt,
-  descriptor-loop-reads.Asked,
-  descriptor-loop-reads.Learnt,
-  operational-loop-below t,
-  operational-loop.Post,
-) (target-loop-at t) target-loop.Post
-target-loop-part-descriptor-loop-start t c = omega (
-  arith,
-  loop-two
-      (now (c .before .before .before .before .args .s)),
-  c .before .loop-size .ensures .is,
-)
-
-target-loop-part-descriptor-loop-end : (t : ℕ) → target-loop-lts.Need-part-descriptor-loop-end (
-  first-reads.Asked,
-  first-reads.Learnt,
-  loop-size-reads.Asked,
-  loop-size-reads.Learnt,
-  descriptor-loop-reads.Asked,
-  descriptor-loop-reads.Learnt,
-  operational-loop-below t,
-  operational-loop.Post,
-) (target-loop-at t) target-loop.Post
-target-loop-part-descriptor-loop-end t c = search needs
-
-target-loop-descriptor-loop-requires : (t : ℕ) → target-loop-lts.Need-descriptor-loop-requires (
-  first-reads.Asked,
-  first-reads.Learnt,
-  loop-size-reads.Asked,
-  loop-size-reads.Learnt,
-  descriptor-loop-reads.Asked,
-  descriptor-loop-reads.Learnt,
-  operational-loop-below t,
-  operational-loop.Post,
-) (target-loop-at t) target-loop.Post
-target-loop-descriptor-loop-requires t c κs = search needs
-
-target-loop-returns-3 : (t : ℕ) → target-loop-lts.Need-returns-3 (
-  first-reads.Asked,
-  first-reads.Learnt,
-  loop-size-reads.Asked,
-  loop-size-reads.Learnt,
-  descriptor-loop-reads.Asked,
-  descriptor-loop-reads.Learnt,
-  operational-loop-below t,
-  operational-loop.Post,
-) (target-loop-at t) target-loop.Post
-target-loop-returns-3 t c = let a = c .before .before .before .before .before .before .before .args in
-    c .if3 .taken ∙ loops-bad false (now (a .s)) (a .other) _ _ (c .before .before .before .before .loop-size .ensures .is)
-    (omega arith) (c .before .descriptor-loop .ensures) (c .if3 .taken)
-
-target-loop-sub-operational-loop : (t : ℕ) → target-loop-lts.Need-sub-operational-loop (
-  first-reads.Asked,
-  first-reads.Learnt,
-  loop-size-reads.Asked,
-  loop-size-reads.Learnt,
-  descriptor-loop-reads.Asked,
-  descriptor-loop-reads.Learnt,
-  operational-loop-below t,
-  operational-loop.Post,
-) (target-loop-at t) target-loop.Post
+target-loop-sub-operational-loop : (t : ℕ) → target-loop-lts.Need-sub-operational-loop (target-loop-claims t) (target-loop-at t) target-loop.Post
 target-loop-sub-operational-loop t c = search needs
 
 target-loop-part-operational-loop-start :
-    (t : ℕ) → target-loop-lts.Need-part-operational-loop-start (
-      first-reads.Asked,
-      first-reads.Learnt,
-      loop-size-reads.Asked,
-      loop-size-reads.Learnt,
-      descriptor-loop-reads.Asked,
-      descriptor-loop-reads.Learnt,
-      operational-loop-below t,
-      operational-loop.Post,
-    ) (target-loop-at t) target-loop.Post
+    (t : ℕ) → target-loop-lts.Need-part-operational-loop-start (target-loop-claims t) (target-loop-at t) target-loop.Post
 target-loop-part-operational-loop-start t c = search needs
 
-target-loop-part-operational-loop-end : (t : ℕ) → target-loop-lts.Need-part-operational-loop-end (
-  first-reads.Asked,
-  first-reads.Learnt,
-  loop-size-reads.Asked,
-  loop-size-reads.Learnt,
-  descriptor-loop-reads.Asked,
-  descriptor-loop-reads.Learnt,
-  operational-loop-below t,
-  operational-loop.Post,
-) (target-loop-at t) target-loop.Post
+target-loop-part-operational-loop-end : (t : ℕ) → target-loop-lts.Need-part-operational-loop-end (target-loop-claims t) (target-loop-at t) target-loop.Post
 target-loop-part-operational-loop-end t c = search needs
 
-target-loop-operational-loop-requires : (t : ℕ) → target-loop-lts.Need-operational-loop-requires (
-  first-reads.Asked,
-  first-reads.Learnt,
-  loop-size-reads.Asked,
-  loop-size-reads.Learnt,
-  descriptor-loop-reads.Asked,
-  descriptor-loop-reads.Learnt,
-  operational-loop-below t,
-  operational-loop.Post,
-) (target-loop-at t) target-loop.Post
+target-loop-sub-descriptor-loop : (t : ℕ) → target-loop-lts.Need-sub-descriptor-loop (target-loop-claims t) (target-loop-at t) target-loop.Post
+target-loop-sub-descriptor-loop t c = omega (arith, loop-two (now (c .before .before .before .before .before .args .s)), c .before .before .loop-size .ensures .is)
+
+target-loop-part-descriptor-loop-start : (t : ℕ) → target-loop-lts.Need-part-descriptor-loop-start (target-loop-claims t) (target-loop-at t) target-loop.Post
+target-loop-part-descriptor-loop-start t c = omega (arith, loop-two (now (c .before .before .before .before .before .args .s)), c .before .before .loop-size .ensures .is)
+
+target-loop-part-descriptor-loop-end : (t : ℕ) → target-loop-lts.Need-part-descriptor-loop-end (target-loop-claims t) (target-loop-at t) target-loop.Post
+target-loop-part-descriptor-loop-end t c = search needs
+
+target-loop-descriptor-loop-requires : (t : ℕ) → target-loop-lts.Need-descriptor-loop-requires (target-loop-claims t) (target-loop-at t) target-loop.Post
+target-loop-descriptor-loop-requires t c κs = search needs
+
+target-loop-operational-loop-requires : (t : ℕ) → target-loop-lts.Need-operational-loop-requires (target-loop-claims t) (target-loop-at t) target-loop.Post
 target-loop-operational-loop-requires t c κs = (
-  rw from (simp length-drop
-      (omega (
-        arith,
-        loop-two (now (c .before .before .before .before .before .before .before .before .args .s)),
-        c .before
-            .before .before .before .before .loop-size .ensures .is,
-      ))),
+  rw from (simp length-drop (omega (arith, loop-two (now (c .before .before .before .before .before .before .before .args .s)), c .before .before .before .before .loop-size .ensures .is))),
   tt,
 )
 
-target-loop-returns-4 : (t : ℕ) → target-loop-lts.Need-returns-4 (
-  first-reads.Asked,
-  first-reads.Learnt,
-  loop-size-reads.Asked,
-  loop-size-reads.Learnt,
-  descriptor-loop-reads.Asked,
-  descriptor-loop-reads.Learnt,
-  operational-loop-below t,
-  operational-loop.Post,
-) (target-loop-at t) target-loop.Post
-target-loop-returns-4 t c = let a = c .before .before .before .before .before .before .before .before .before .args in
-    c .operational-loop .ensures
-    ∙ loops-on false (now (a .s)) (a .other) _ _ (c .before .before .before .before .before .before .loop-size .ensures .is)
-    (omega arith) (c .before .before .before .descriptor-loop .ensures) (c .before .before .if3 .left)
+target-loop-returns-3 : (t : ℕ) → target-loop-lts.Need-returns-3 (target-loop-claims t) (target-loop-at t) target-loop.Post
+target-loop-returns-3 t c = c .operational-loop .ensures
+    ∙ loops-on false (now (c .before .before .before .before .before .before .before .before .args .s)) _ _ _ (c .before .before .before .before .before .loop-size .ensures .is) (omega arith) (c .before .descriptor-loop .ensures)
 
 pub +operational-loop+target-loop-spec : {M : Type 1} → statement M
 +operational-loop+target-loop-spec =
-    close μ-operational-loop μ-target-loop (λ t. operational-loop-lts.spec (
-      loop-size-reads.Asked,
-      loop-size-reads.Learnt,
-      descriptor-loop-reads.Asked,
-      descriptor-loop-reads.Learnt,
-      target-loop-below t,
-      target-loop.Post,
-    )
+    close μ-operational-loop μ-target-loop (λ t. operational-loop-lts.spec (operational-loop-claims t)
     (operational-loop-at t)
     operational-loop.Post
     (operational-loop-loop-size-requires t)
     (operational-loop-returns t)
+    (operational-loop-sub-target-loop t)
+    (operational-loop-part-target-loop-start t)
+    (operational-loop-part-target-loop-end t)
     (operational-loop-sub-descriptor-loop t)
     (operational-loop-part-descriptor-loop-start t)
     (operational-loop-part-descriptor-loop-end t)
     (operational-loop-descriptor-loop-requires t)
-    (operational-loop-returns-2 t)
-    (operational-loop-sub-target-loop t)
-    (operational-loop-part-target-loop-start t)
-    (operational-loop-part-target-loop-end t)
     (operational-loop-target-loop-requires t)
-    (operational-loop-returns-3 t))
-    λ t. target-loop-lts.spec (
-      first-reads.Asked,
-      first-reads.Learnt,
-      loop-size-reads.Asked,
-      loop-size-reads.Learnt,
-      descriptor-loop-reads.Asked,
-      descriptor-loop-reads.Learnt,
-      operational-loop-below t,
-      operational-loop.Post,
-    )
+    (operational-loop-returns-2 t))
+    λ t. target-loop-lts.spec (target-loop-claims t)
     (target-loop-at t)
     target-loop.Post
-    (target-loop-first-requires t)
     (target-loop-returns t)
     (target-loop-loop-size-requires t)
     (target-loop-returns-2 t)
+    (target-loop-sub-operational-loop t)
+    (target-loop-part-operational-loop-start t)
+    (target-loop-part-operational-loop-end t)
     (target-loop-sub-descriptor-loop t)
     (target-loop-part-descriptor-loop-start t)
     (target-loop-part-descriptor-loop-end t)
     (target-loop-descriptor-loop-requires t)
-    (target-loop-returns-3 t)
-    (target-loop-sub-operational-loop t)
-    (target-loop-part-operational-loop-start t)
-    (target-loop-part-operational-loop-end t)
     (target-loop-operational-loop-requires t)
-    (target-loop-returns-4 t)
+    (target-loop-returns-3 t)

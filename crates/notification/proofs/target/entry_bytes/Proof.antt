@@ -10,22 +10,22 @@ use Rattle.notification.proofs.target.entry_bytes.Tie as tie
 byte-at-requires : tie.Need-byte-at-requires
 byte-at-requires c κs = search needs
 
-behind-requires : tie.Need-behind-requires
-behind-requires c κs = search needs
+after-requires : tie.Need-after-requires
+after-requires c κs = search needs
 
 returns : tie.Need-returns
 unfolding entryBytes
 returns c = yes-pick _ _ (eq-eqb _ 0x07 (was (c .before .before .byte-at .ensures .is) (c .before .if1 .taken)))
-    (c .behind .ensures .bytes)
+    (c .after .ensures .bytes)
 
-behind-requires-2 : tie.Need-behind-requires-2
-behind-requires-2 c κs = search needs
+after-requires-2 : tie.Need-after-requires-2
+after-requires-2 c κs = search needs
 
 returns-2 : tie.Need-returns-2
 unfolding entryBytes
 returns-2 c = let e = c .before .before .before .byte-at .ensures .is in
     not-pick _ _ (ne-eqb _ 0x07 (λ z. c .before .before .if1 .left (e ∙ z)))
-    (yes-pick _ _ (eq-eqb _ 0x0E (was e (c .before .if2 .taken))) (c .behind2 .ensures .bytes))
+    (yes-pick _ _ (eq-eqb _ 0x0E (was e (c .before .if2 .taken))) (c .after2 .ensures .bytes))
 
 slice-aggregate-result : tie.Need-slice-aggregate-result
 slice-aggregate-result c = search needs
@@ -41,9 +41,9 @@ entry-bytes-spec =
     tie.close
     (tie.spec
     byte-at-requires
-    behind-requires
+    after-requires
     returns
-    behind-requires-2
+    after-requires-2
     returns-2
     slice-aggregate-result
     returns-3)

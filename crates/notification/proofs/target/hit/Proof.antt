@@ -10,8 +10,8 @@ use Rattle.notification.proofs.target.hit.Tie as tie
 byte-at-requires : tie.Need-byte-at-requires
 byte-at-requires c κs = search needs
 
-behind-requires : tie.Need-behind-requires
-behind-requires c κs = search needs
+after-requires : tie.Need-after-requires
+after-requires c κs = search needs
 
 same-under-requires : tie.Need-same-under-requires
 same-under-requires c κs = search needs
@@ -19,7 +19,7 @@ same-under-requires c κs = search needs
 returns : tie.Need-returns
 unfolding hit
 returns c = yes-pick _ _ (eq-eqb _ 0x07 (was (c .before .before .before .byte-at .ensures .is) (c .before .before .if1 .taken)))
-    (c .same-under .ensures ∙ rw (c .before .behind .ensures .bytes))
+    (c .same-under .ensures ∙ rw (c .before .after .ensures .bytes))
 
 in-range-requires : tie.Need-in-range-requires
 in-range-requires c κs = search needs
@@ -34,7 +34,7 @@ hit-spec =
     tie.close
     (tie.spec
     byte-at-requires
-    behind-requires
+    after-requires
     same-under-requires
     returns
     in-range-requires
