@@ -16,8 +16,8 @@ use Rattle.archive.proofs.sections.Tie as tie
 listing-settings-requires : tie.Need-listing-settings-requires
 listing-settings-requires c κs = search needs
 
-send-by-deshared-refusal-requires : tie.Need-send-by-deshared-refusal-requires
-send-by-deshared-refusal-requires c κs = search needs
+send-by-default-requires : tie.Need-send-by-default-requires
+send-by-default-requires c κs = search needs
 
 enum-known-length : tie.Need-enum-known-length
 enum-known-length c = search needs
@@ -51,7 +51,7 @@ sections-spec =
     tie.close
     (tie.spec
     listing-settings-requires
-    send-by-deshared-refusal-requires
+    send-by-default-requires
     enum-known-length
     slice-aggregate-result
     enum-known-refusal

@@ -7,8 +7,8 @@ use Rattle.fossknut.proofs.fossknut_send_by_default.Tie as tie
 settings-of-requires : tie.Need-settings-of-requires
 settings-of-requires c κs = search needs
 
-send-by-deshared-refusal-requires : tie.Need-send-by-deshared-refusal-requires
-send-by-deshared-refusal-requires c κs = search needs
+send-by-default-requires : tie.Need-send-by-default-requires
+send-by-default-requires c κs = search needs
 
 sending-length-requires : tie.Need-sending-length-requires
 sending-length-requires c κs = search needs
@@ -25,12 +25,12 @@ returns c =
     send-told (rw (sent .before .before .settings-of .ensures) at (sent .send-by-default .ensures))
     (c .sending-number .ensures) (c .before .sending-length .ensures)
 
-pub fossknut-send-by-deshared-refusal-spec : {M : Type 1} → statement M
-fossknut-send-by-deshared-refusal-spec =
+pub fossknut-send-by-default-spec : {M : Type 1} → statement M
+fossknut-send-by-default-spec =
     tie.close
     (tie.spec
     settings-of-requires
-    send-by-deshared-refusal-requires
+    send-by-default-requires
     sending-length-requires
     sending-number-requires
     same-length
