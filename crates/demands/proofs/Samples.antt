@@ -11,12 +11,12 @@ use Rattle.rules.specs.Step.{numberOf, lengthOf, goodSettings, goodRun, goodSta
 use Rattle.rules.specs.Send.{sectionCount, piece, sectionAt, sectionsTo, sections}
 use Rattle.rules.specs.Row.{next}
 use Rattle.pes_rules.specs.Packet.{flagged, readOf}
-use Rattle.notification_rules.specs.Cut.{whole, run, cutOf, every, any, odd, placed}
+use Rattle.notification_rules.specs.Cut.{whole, cutWithin, cutOf, every, any, odd, fromOffset}
 use Rattle.notification_rules.specs.Loop.{actionType, platformIdHash, loopSize, descriptorSize, loopCut, loopsOf, filled, descriptorsOf, pairsOf}
 use Rattle.notification_rules.specs.Finding.{otherAction, wrongHash, fits, misfit, known, otherLength, platformLines, loopLines, refusal, found, chosen, searched, findingOf}
 use Rattle.notification_rules.specs.Target.{rightLength, firstPair}
 use Rattle.demands.specs.Samples.{answersFrom, samples, Samples}
 
 pub all-right : Samples
-unfolding samples answersFrom flatten numberAt bytesOf pick both either first firstOf crcBit crcBits crcByte crcFrom crc32 tableId sectionSyntaxIndicator privateIndicator sectionLength address payloadScramblingControl addressScramblingControl llcSnapFlag currentNextIndicator sectionNumber lastSectionNumber payload crcField header sealed sectionOf tooShort otherTable wrongLength wrongSyntax wrongCrc notCurrent outOfOrder addressScrambled formLines orderLines sharedLines sharedRefusal checkLines check agree sameAddress numberOf lengthOf goodSettings goodRun goodState keyOf sameKey continues onward fillFrom ours payloadScrambled overLimit ownLines ownRefusal room refuseFirst laid finish keep lay setupLines stepOf gapOf sectionCount piece sectionAt sectionsTo sections next flagged readOf whole run cutOf every any odd placed actionType platformIdHash loopSize descriptorSize loopCut loopsOf filled descriptorsOf pairsOf otherAction wrongHash fits misfit known otherLength platformLines loopLines refusal found chosen searched findingOf rightLength firstPair
+unfolding samples answersFrom flatten numberAt bytesOf pick both either first firstOf crcBit crcBits crcByte crcFrom crc32 tableId sectionSyntaxIndicator privateIndicator sectionLength address payloadScramblingControl addressScramblingControl llcSnapFlag currentNextIndicator sectionNumber lastSectionNumber payload crcField header sealed sectionOf tooShort otherTable wrongLength wrongSyntax wrongCrc notCurrent outOfOrder addressScrambled formLines orderLines sharedLines sharedRefusal checkLines check agree sameAddress numberOf lengthOf goodSettings goodRun goodState keyOf sameKey continues onward fillFrom ours payloadScrambled overLimit ownLines ownRefusal room refuseFirst laid finish keep lay setupLines stepOf gapOf sectionCount piece sectionAt sectionsTo sections next flagged readOf whole cutWithin cutOf every any odd fromOffset actionType platformIdHash loopSize descriptorSize loopCut loopsOf filled descriptorsOf pairsOf otherAction wrongHash fits misfit known otherLength platformLines loopLines refusal found chosen searched findingOf rightLength firstPair
 all-right = (refl, (refl, (refl, (refl, (refl, (refl, (refl, (refl, (refl, (refl, (refl, (refl, (refl, tt)))))))))))))
