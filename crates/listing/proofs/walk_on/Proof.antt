@@ -5,7 +5,7 @@ use mathlib.Core.Logic.{inl, inr}
 use mathlib.Core.Path.{_≡_, refl, _∙_}
 use lib.ListN.{length}
 use Rattle.listing.specs.Walk.{Fine, Room}
-use Rattle.listing.specs.Run.{Walked}
+use Rattle.listing.specs.Turns.{Walked}
 use Rattle.listing.proofs.Turns.{walked-none, walked-more}
 use Rattle.listing.proofs.walk_on.Statement.{statement}
 use Rattle.listing.proofs.walk_on.Tie as tie
