@@ -8,7 +8,7 @@ use mathlib.Core.List.{List, [], _∷_, _++_, append-assoc, append-nil}
 use lib.Dec.{ltb}
 use lib.ListN.{length, replicate, take, drop, length-append, length-take, length-drop}
 use lib.Seq.{getD-take, length-take-le, take-at, drop-at, drop-drop, take-add, take-all, take-append-add}
-use borrow.Author.Tests.{leb-true, ltb-false}
+use borrow.Author.Tests.{leb-true, le-leb, ltb-false}
 use Rattle.wire.specs.Bytes.{numberAt}
 use Rattle.wire.specs.Choice.{pick, both, either}
 use Rattle.wire.proofs.Choice.{either-false}
@@ -91,6 +91,11 @@ front-before b rest s e n h l f =
 section-length-front : (n : ℕ) (r : List ℕ) → 3 ≤ n → sectionLength (take n r) ≡ sectionLength r
 unfolding sectionLength numberAt
 section-length-front n r h = rw (getD-take n r 1 0 (omega arith), getD-take n r 2 0 (omega arith))
+
+-- 4,098 bytes hold a whole offer: section_length has 12 bits
+pub longest : (s : List ℕ) → 4098 ≤ length s → true ≡ whole s
+unfolding whole sectionLength
+longest s h = sym (le-leb (3 + sectionLength s) (length s) (omega arith))
 
 -- an offer that is whole in the first n bytes is the offer of all of them
 whole-offer : (n : ℕ) (r : List ℕ) → whole (take n r) ≡ true → offerLength r ≡ offerLength (take n r)
