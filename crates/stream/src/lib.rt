@@ -52,7 +52,8 @@ pub fn read_some(buffer: &mut [u8]) -> Input
     while turns > 0 {
         let got = libc::read(STDIN_FILENO, buffer);
         if got >= 0 {
-            return Input::Bytes(io::count(got, buffer));
+            let n = io::count(got, buffer);
+            return Input::Bytes(n);
         }
         if !again() {
             break;
@@ -66,8 +67,8 @@ pub fn read_some(buffer: &mut [u8]) -> Input
 fn write_some(descriptor: i32, text: &[u8]) -> usize
     ensures { λ r. ⌜ Counts r (now (text .entry)) ⌝ }
 {
-    let mut turns = u64::MAX;
-    while turns > 0 {
+    let mut tries = u64::MAX;
+    while tries > 0 {
         let put = libc::write(descriptor, text);
         if put >= 0 {
             return io::count(put, text);
@@ -75,7 +76,7 @@ fn write_some(descriptor: i32, text: &[u8]) -> usize
         if !again() {
             break;
         }
-        turns -= 1;
+        tries -= 1;
     }
     0
 }

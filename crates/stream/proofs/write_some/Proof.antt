@@ -5,10 +5,10 @@ use Rattle.stream.proofs.write_some.Statement.{statement}
 use Rattle.stream.proofs.write_some.Tie as tie
 
 abbrev Inv-loop : tie.InvT-loop
-Inv-loop descriptor text turns₀ turns = Unit
+Inv-loop descriptor text tries₀ tries = Unit
 
 abbrev μ-loop : tie.MeasureT-loop
-μ-loop descriptor text turns₀ turns = turns
+μ-loop descriptor text tries₀ tries = tries
 
 loop-holds : tie.Need-loop-holds Inv-loop μ-loop
 loop-holds c = search needs
@@ -25,8 +25,8 @@ returns c = search needs
 again-requires : tie.Need-again-requires Inv-loop μ-loop
 again-requires c κs = search needs
 
-sub-turns : tie.Need-sub-turns Inv-loop μ-loop
-sub-turns c = search needs
+sub-tries : tie.Need-sub-tries Inv-loop μ-loop
+sub-tries c = search needs
 
 loop-less : tie.Need-loop-less Inv-loop μ-loop
 loop-less c = search needs
@@ -51,7 +51,7 @@ write-some-spec =
     count-requires
     returns
     again-requires
-    sub-turns
+    sub-tries
     loop-less
     loop-again
     returns-2
