@@ -1,6 +1,7 @@
 // Standard input, standard output and the error output for the programs: a call that cannot move a byte yet is made again, and what
 // failed is told in one word. What the system moves cannot be said in a contract: a contract says what was answered and handed over.
 use libc::STDIN_FILENO;
+use libc::types::timespec;
 ghost use mathlib.Core.Path.{_≡_};
 ghost use mathlib.Core.Bool.{true};
 ghost use lib.ListN.{length};
@@ -24,9 +25,22 @@ pub enum Failure {
 // Where whoever starts a program may listen for its word on failure. Where it is not open, the word is lost and nothing else happens.
 const LISTENER: i32 = 3;
 
-// Another process may run meanwhile.
+// Waits for the time asked, or until a signal comes. It is apart since a reference to a struct is proved by hand.
+fn sleep(asked: timespec, mut left: timespec) {
+    libc::nanosleep(&asked, &mut left);
+}
+
+// Waits a millisecond.
 fn pause() {
-    libc::sched_yield();
+    let asked = timespec {
+        tv_sec: 0,
+        tv_nsec: 1000000,
+    };
+    let left = timespec {
+        tv_sec: 0,
+        tv_nsec: 0,
+    };
+    sleep(asked, left);
 }
 
 // A call has just answered -1: whether it may be made again. A signal came, or the descriptor is set not to wait and nothing can be
