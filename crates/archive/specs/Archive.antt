@@ -9,7 +9,7 @@ use Rattle.wire.specs.Choice.{pick}
 use Rattle.stream.specs.declared.Input.{Input}
 use Rattle.stream.specs.declared.Input.the-variants.{Bytes, Unreadable}
 use Rattle.stream.specs.declared.Failure.{Failure}
-use Rattle.stream.specs.declared.Failure.the-variants as failure
+use Rattle.stream.specs.declared.Failure.the-variants.{Nothing, Reading, Writing, Refused}
 use Rattle.rules.specs.Cut.{listingSettings}
 use Rattle.rules.specs.Send.{SendOutcome, sendingNumber, sendingLength, sentOf, defaultPiece}
 
@@ -25,5 +25,5 @@ Archived Unreadable b out number text = (number ≡ 0) × (text ≡ [])
 
 -- what has failed, where all of the sections are written or not (t): reading, the unit, which is refused by that number, or writing
 abbrev pub failureOf : Input → ℕ → Bool → Failure
-failureOf Unreadable number t = failure.Input
-failureOf (Bytes n) number t = pick (eqb number 0) (pick t failure.Nothing failure.Output) failure.Refused
+failureOf Unreadable number t = Reading
+failureOf (Bytes n) number t = pick (eqb number 0) (pick t Nothing Writing) Refused

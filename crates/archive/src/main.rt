@@ -83,7 +83,7 @@ fn failure(input: Input, number: u8, written: bool) -> Failure
     ensures { λ r. ⌜ r ≡ failureOf input number written ⌝ }
 {
     let Input::Bytes(_) = input else {
-        return Failure::Input;
+        return Failure::Reading;
     };
     if number != 0 {
         return Failure::Refused;
@@ -91,7 +91,7 @@ fn failure(input: Input, number: u8, written: bool) -> Failure
     if written {
         Failure::Nothing
     } else {
-        Failure::Output
+        Failure::Writing
     }
 }
 

@@ -278,6 +278,12 @@ pub roomy : (w : Walk) (t : Bool) (k : ℕ) → due w t k ≡ false → w .out �
 unfolding full due
 roomy w t k h m = omega (arith, ltb-false (k - w .out) 63 (either-false _ _ h .0))
 
+-- where a turn may wait, only lines of the rest are owed
+pub owed-waits : (c : Settings) (w : Walk) (b o u rest : List ℕ) → Waits w b
+    → owed c w o u rest ≡ linesOf c (w .offset) (w .state) u (offers rest)
+unfolding owed
+owed-waits c w b o u rest h = rw (h .empty)
+
 -- ---- the start and the end
 pub owed-fresh : (w : Walk) (o recording : List ℕ) → w .out ≡ 0 → w .offset ≡ 0 → w .state ≡ Idle
     → owed listingSettings w o (replicate 65535 0) recording ≡ listing recording

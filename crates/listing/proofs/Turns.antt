@@ -6,14 +6,14 @@ use mathlib.Core.Bool.{Bool, true, false, true≢false}
 use mathlib.Core.Logic.{_⊎_, inl, inr}
 use mathlib.Core.List.{List, [], _++_, append-assoc, append-nil}
 use Rattle.wire.specs.Choice.{pick}
-use Rattle.stream.specs.declared.Failure.the-variants as failure
+use Rattle.stream.specs.declared.Failure.the-variants.{Nothing, Reading, Writing}
 use Rattle.rules.specs.declared.Settings.{Settings}
-use Rattle.rules.specs.Cut.{listingSettings}
+use Rattle.rules.specs.Cut.{listingSettings, offers}
 use Rattle.listing.specs.declared.Walk.{Walk}
-use Rattle.listing.specs.Lines.{listing}
-use Rattle.listing.specs.Walk.{Left, Gave, Offered, written, owed, Turned}
+use Rattle.listing.specs.Lines.{linesOf, listing}
+use Rattle.listing.specs.Walk.{Left, Gave, Offered, written, owed, Waits, Turned}
 use Rattle.listing.specs.Turns.{Turns, begun, turned, Walked, Ended, Listed, Fresh, failureOf}
-use Rattle.listing.proofs.Owed.{left-stays, offered-stays, gave-owed, owed-end}
+use Rattle.listing.proofs.Owed.{left-stays, offered-stays, gave-owed, owed-waits, owed-end}
 
 pub turns-owed : {c : Settings} {w r : Walk} {b o u read text b′ o′ u′ : List ℕ} {k : ℕ} → Turns c w b o u k read text r b′ o′ u′
     → (rest : List ℕ) → Left r b′ rest → owed c w o u (read ++ rest) ≡ text ++ owed c r o′ u′ rest
@@ -40,11 +40,11 @@ left-nothing w b a =
     record { front = rw z; all = λ t. omega arith }
 
 -- a write that failed is told
-told : (w : Walk) → w .failed ≡ true → failureOf w ≡ failure.Nothing → ⊥
+told : (w : Walk) → w .failed ≡ true → failureOf w ≡ Nothing → ⊥
 unfolding failureOf pick
 told w f q = go (w .unreadable) (rw f at q)
   where
-    go : (t : Bool) → pick t failure.Input failure.Output ≡ failure.Nothing → ⊥
+    go : (t : Bool) → pick t Reading Writing ≡ Nothing → ⊥
     go true e = let z : _≡_ {A = ℕ} 0 1 = cc in omega arith
     go false e = let z : _≡_ {A = ℕ} 0 1 = cc in omega arith
 
@@ -66,13 +66,21 @@ module _
       let none : owed listingSettings r o′ u′ [] ≡ [] = owed-end listingSettings r o′ u′ (all .0) (all .1) end ∙ rw (g .out) in
       rw (append-nil (a .walked .read), none, append-nil (a .walked .text ++ final)) at (goes-on [] end)
 
-  silent : failureOf r ≡ failure.Nothing → (r .done ≡ true) ⊎ (a .left ≡ 0)
+  silent : failureOf r ≡ Nothing → (r .done ≡ true) ⊎ (a .left ≡ 0)
   silent q = go (a .ends)
     where
       go : (e .done ≡ true) ⊎ ((e .failed ≡ true) ⊎ (a .left ≡ 0)) → (r .done ≡ true) ⊎ (a .left ≡ 0)
       go (inl d) = inl (g .done ∙ d)
       go (inr (inl f)) = absurd (told r (g .failed f) q)
       go (inr (inr z)) = inr z
+
+  live : {k : ℕ} {read text b″ o″ u″ : List ℕ} {w : Walk} → Turns listingSettings s b o u k read text w b″ o″ u″ → Waits w b″
+      → (rest : List ℕ) → Left w b″ rest
+      → listing (read ++ rest) ≡ text ++ linesOf listingSettings (w .offset) (w .state) u″ (offers rest)
+  live {read = read} {text = text} {b″ = b″} {o″ = o″} {u″ = u″} {w = w} turns waits rest l =
+      sym (rw zeros (owes o (read ++ rest)))
+      ∙ turns-owed turns rest l
+      ∙ ap (λ (x : List ℕ). text ++ x) (owed-waits listingSettings w b″ o″ u″ rest waits)
 
   pub listed : Listed b o u r b′ o′ u′
   listed =
@@ -86,4 +94,5 @@ module _
         goes-on = goes-on;
         whole = λ t. whole (offered-stays e (g .stays) (a .walked .done (sym (g .done) ∙ t)));
         silent = silent;
+        live = live;
       }

@@ -6,11 +6,11 @@ use mathlib.Core.List.{List, [], _++_}
 use mathlib.Core.Bool.{true, false}
 use Rattle.wire.specs.Choice.{pick}
 use Rattle.stream.specs.declared.Failure.{Failure}
-use Rattle.stream.specs.declared.Failure.the-variants as failure
+use Rattle.stream.specs.declared.Failure.the-variants.{Nothing, Reading, Writing}
 use Rattle.rules.specs.declared.Settings.{Settings}
-use Rattle.rules.specs.Cut.{listingSettings}
-use Rattle.listing.specs.Lines.{listing}
-use Rattle.listing.specs.Walk.{Left, Offered, Gave, written, owed, Turned}
+use Rattle.rules.specs.Cut.{listingSettings, offers}
+use Rattle.listing.specs.Lines.{linesOf, listing}
+use Rattle.listing.specs.Walk.{Left, Offered, Gave, written, owed, Waits, Turned}
 use Rattle.listing.specs.declared.Walk.{Walk}
 
 -- turns from w to r, with so many left of 2^64 - 1: they offer the bytes `read` of the recording and give their writes `text`, joined
@@ -38,10 +38,11 @@ Fresh w = (w .over ≡ false) × (w .done ≡ false) × (w .unreadable ≡ false
 
 -- what has failed: the input, where both have, since nothing is read after a write that failed
 unfoldable pub failureOf : Walk → Failure
-failureOf w = pick (w .unreadable) failure.Input (pick (w .failed) failure.Output failure.Nothing)
+failureOf w = pick (w .unreadable) Reading (pick (w .failed) Writing Nothing)
 
 -- turns from a fresh start to an end, and a write of what their last lines leave: what the writes were given, joined, is the listing of what was
--- offered; where not all is offered, the listing goes on with what is owed; where nothing has failed, all is offered, unless no turn was left
+-- offered; where not all is offered, the listing goes on with what is owed; wherever a turn may wait for input, the writes before it were
+-- given every line of what was offered; where nothing has failed, all is offered, unless no turn was left
 pub record Listed (b o u : List ℕ) (r : Walk) (b′ o′ u′ : List ℕ) : Type 0 where
   pub start : Walk
   pub fresh : Fresh start
@@ -52,4 +53,7 @@ pub record Listed (b o u : List ℕ) (r : Walk) (b′ o′ u′ : List ℕ) : Ty
   pub goes-on : (rest : List ℕ) → Left r b′ rest
       → listing (ended .walked .read ++ rest) ≡ (ended .walked .text ++ final) ++ owed listingSettings r o′ u′ rest
   pub whole : r .done ≡ true → listing (ended .walked .read) ≡ ended .walked .text ++ final
-  pub silent : failureOf r ≡ failure.Nothing → (r .done ≡ true) ⊎ (ended .left ≡ 0)
+  pub silent : failureOf r ≡ Nothing → (r .done ≡ true) ⊎ (ended .left ≡ 0)
+  pub live : {k : ℕ} {read text b″ o″ u″ : List ℕ} {w : Walk} → Turns listingSettings start b o u k read text w b″ o″ u″ → Waits w b″
+      → (rest : List ℕ) → Left w b″ rest
+      → listing (read ++ rest) ≡ text ++ linesOf listingSettings (w .offset) (w .state) u″ (offers rest)

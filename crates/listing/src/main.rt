@@ -342,10 +342,10 @@ fn failure(walk: Walk) -> Failure
     ensures { λ r. ⌜ r ≡ failureOf walk ⌝ }
 {
     if walk.unreadable {
-        return Failure::Input;
+        return Failure::Reading;
     }
     if walk.failed {
-        return Failure::Output;
+        return Failure::Writing;
     }
     Failure::Nothing
 }

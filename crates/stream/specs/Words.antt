@@ -6,7 +6,7 @@ use Rattle.io.specs.Counts.{Counts}
 use Rattle.stream.specs.declared.Input.{Input}
 use Rattle.stream.specs.declared.Input.the-variants.{Bytes, Unreadable}
 use Rattle.stream.specs.declared.Failure.{Failure}
-use Rattle.stream.specs.declared.Failure.the-variants as failure
+use Rattle.stream.specs.declared.Failure.the-variants.{Nothing, Reading, Writing, Refused}
 
 -- how many bytes were read
 abbrev pub countOf : Input → ℕ
@@ -24,7 +24,7 @@ Filled r b = Counts (countOf r) b
 
 -- a line in ASCII: 'input' where the input could not be read, 'output' where a write failed, 'refused' where the unit is refused
 abbrev pub wordOf : Failure → List ℕ
-wordOf failure.Nothing = []
-wordOf failure.Input = 105 ∷ 110 ∷ 112 ∷ 117 ∷ 116 ∷ 10 ∷ []
-wordOf failure.Output = 111 ∷ 117 ∷ 116 ∷ 112 ∷ 117 ∷ 116 ∷ 10 ∷ []
-wordOf failure.Refused = 114 ∷ 101 ∷ 102 ∷ 117 ∷ 115 ∷ 101 ∷ 100 ∷ 10 ∷ []
+wordOf Nothing = []
+wordOf Reading = 105 ∷ 110 ∷ 112 ∷ 117 ∷ 116 ∷ 10 ∷ []
+wordOf Writing = 111 ∷ 117 ∷ 116 ∷ 112 ∷ 117 ∷ 116 ∷ 10 ∷ []
+wordOf Refused = 114 ∷ 101 ∷ 102 ∷ 117 ∷ 115 ∷ 101 ∷ 100 ∷ 10 ∷ []

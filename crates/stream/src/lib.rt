@@ -17,8 +17,8 @@ pub enum Input {
 // Why a program's work is not done.
 pub enum Failure {
     Nothing,
-    Input,
-    Output,
+    Reading,
+    Writing,
     Refused,
 }
 
@@ -121,8 +121,8 @@ fn tell(failure: Failure, word: &[u8])
 pub fn say(failure: Failure) {
     match failure {
         Failure::Nothing => tell(failure, b""),
-        Failure::Input => tell(failure, b"input\n"),
-        Failure::Output => tell(failure, b"output\n"),
+        Failure::Reading => tell(failure, b"input\n"),
+        Failure::Writing => tell(failure, b"output\n"),
         Failure::Refused => tell(failure, b"refused\n"),
     }
 }
