@@ -102,10 +102,10 @@ whole-offer : (n : ℕ) (r : List ℕ) → whole (take n r) ≡ true → offerLe
 unfolding whole
 whole-offer n r h =
     let p : List ℕ = take n r in
-    let long : 3 + sectionLength p ≤ length p = leb-true _ _ h in
+    let long = leb-true _ (length p) h in
     let l = length-take n r in
-    let s : sectionLength p ≡ sectionLength r = section-length-front n r (omega arith) in
-    omega (arith, offer-long r (omega arith), offer-long p (omega arith))
+    let s : sectionLength p ≡ sectionLength r = section-length-front n r (omega (arith, long)) in
+    omega (arith, long, offer-long r (omega (arith, long)), offer-long p (omega (arith, long)))
 
 -- where an offer may be cut, that of the bytes at hand is the recording's
 pub same-offer : (w : Walk) (b rest : List ℕ) → ready w b ≡ true → Left w b rest → offerLength rest ≡ offerLength (atHand w b)

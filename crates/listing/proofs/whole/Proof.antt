@@ -1,4 +1,5 @@
 -- With 4,098 bytes the offer is whole, whatever its length; else the code computes the definition.
+use native.Mathlib.Omega.{arith}
 use mathlib.Core.Path.{refl}
 use denote.Ref.{now}
 use Rattle.listing.specs.Walk.{whole}
@@ -8,7 +9,7 @@ use Rattle.listing.proofs.whole.Statement.{statement}
 use Rattle.listing.proofs.whole.Tie as tie
 
 returns : tie.Need-returns
-returns c = longest (now (c .before .before .args .s)) (c .if1 .taken)
+returns c = longest (now (c .before .before .args .s)) (omega (arith, c .if1 .taken))
 
 section-length-requires : tie.Need-section-length-requires
 section-length-requires c κs = search needs
