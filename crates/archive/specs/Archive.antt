@@ -23,7 +23,7 @@ abbrev pub Archived : Input → List ℕ → List ℕ → ℕ → List ℕ → T
 Archived (Bytes n) b out number text = Says (sentOf listingSettings false defaultPiece (take n b) out) number text
 Archived Unreadable b out number text = (number ≡ 0) × (text ≡ [])
 
--- what has failed, where all of the sections are written or not (t): reading, the unit, which is refused by that number, or writing
+-- what has failed, where t says whether the sections are written: reading, the unit, which is refused by that number, or writing
 abbrev pub failureOf : Input → ℕ → Bool → Failure
 failureOf Unreadable number t = Reading
 failureOf (Bytes n) number t = pick (eqb number 0) (pick t Nothing Writing) Refused

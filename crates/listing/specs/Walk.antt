@@ -101,8 +101,8 @@ Room w n = w .out ≤ n
 unfoldable pub full : Walk → ℕ → Bool
 full w n = ltb (n - w .out) 63
 
--- a write is due with an output's buffer of n bytes: a line may not fit, or the buffer holds something and no offer may be cut (t), so that
--- the turn would read, which may wait
+-- a write is due with an output's buffer of n bytes, where t says whether an offer may be cut: a line may not fit, or the buffer holds
+-- something and the turn would read, which may wait
 unfoldable pub due : Walk → Bool → ℕ → Bool
 due w t n = either (full w n) (both (not t) (ltb 0 (w .out)))
 
