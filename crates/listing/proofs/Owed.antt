@@ -92,11 +92,6 @@ section-length-front : (n : ℕ) (r : List ℕ) → 3 ≤ n → sectionLength (t
 unfolding sectionLength numberAt
 section-length-front n r h = rw (getD-take n r 1 0 (omega arith), getD-take n r 2 0 (omega arith))
 
--- 4,098 bytes hold a whole offer: section_length has 12 bits
-pub longest : (s : List ℕ) → 4098 ≤ length s → true ≡ whole s
-unfolding whole sectionLength
-longest s h = sym (le-leb (3 + sectionLength s) (length s) (omega arith))
-
 -- an offer that is whole in the first n bytes is the offer of all of them
 whole-offer : (n : ℕ) (r : List ℕ) → whole (take n r) ≡ true → offerLength r ≡ offerLength (take n r)
 unfolding whole
@@ -118,6 +113,11 @@ same-offer w b rest h l = go (w .over) refl h ∙ ap offerLength (l .front)
     go : (t : Bool) → w .over ≡ t → either t (whole (atHand w b)) ≡ true → offerLength rest ≡ offerLength (take n rest)
     go true e q = ap offerLength (sym (take-all n rest (l .all e)))
     go false e q = whole-offer n rest (ap whole (l .front) ∙ q)
+
+-- 4,098 bytes hold a whole offer: section_length has 12 bits
+pub longest : (s : List ℕ) → 4098 ≤ length s → true ≡ whole s
+unfolding whole sectionLength
+longest s h = sym (le-leb (3 + sectionLength s) (length s) (omega arith))
 
 -- ---- what a turn owes
 abbrev Quiet : Walk → List ℕ → List ℕ → Type 0
