@@ -4,20 +4,22 @@
 
 use std::io::{self, BufReader, Read, Write};
 use std::os::unix::io::OwnedFd;
-use std::os::unix::net::UnixDatagram;
-use std::process::{Command, ExitCode, Stdio};
+use std::os::unix::net::{UnixDatagram, UnixStream};
+use std::process::{Child, Command, ExitCode, Stdio};
+use std::time::Duration;
 use std::{env, thread};
 
 use second::generator::recordings::{named, uncut_length, NAMES};
 use second::{archive, listing, vectors};
 
 const USAGE: &str = "\
-usage: second list              the listing of the recording on standard input
-       second send              the sections of the unit on standard input
-       second vectors           the vectors and samples
-       second generate          the names of the recordings
-       second generate NAME     that recording
-       second dribble COMMAND.. the command, given standard input in reads of one byte each";
+usage: second list                the listing of the recording on standard input
+       second send                the sections of the unit on standard input
+       second vectors             the vectors and samples
+       second generate            the names of the recordings
+       second generate NAME       that recording
+       second dribble COMMAND..   the command, given standard input in reads of one byte each
+       second unblocked COMMAND.. the command, whose input and output are set not to wait";
 
 fn main() -> ExitCode {
     let words: Vec<String> = env::args().skip(1).collect();
@@ -32,6 +34,7 @@ fn main() -> ExitCode {
             None => return fail(&format!("second: no recording has the name {name}")),
         },
         ["dribble", program, ref arguments @ ..] => dribble(program, arguments),
+        ["unblocked", program, ref arguments @ ..] => unblocked(program, arguments),
         _ => return fail(USAGE),
     };
     match done {
@@ -70,6 +73,51 @@ fn dribble(program: &str, arguments: &[&str]) -> io::Result<()> {
             ours.send(&[])?;
         }
     });
+    ended_well(&mut child)
+}
+
+/// Reads and writes of the command are told to come again, where a pipe would wait: its input comes
+/// late and in pieces, and its output is full at first.
+fn unblocked(program: &str, arguments: &[&str]) -> io::Result<()> {
+    const LATE: Duration = Duration::from_millis(200);
+    let (mut ours, theirs) = UnixStream::pair()?;
+    let (mut from, mut to) = UnixStream::pair()?;
+    theirs.set_nonblocking(true)?;
+    to.set_nonblocking(true)?;
+    let filled = fill(&mut to)?;
+    let mut child = Command::new(program)
+        .args(arguments)
+        .stdin(Stdio::from(OwnedFd::from(theirs)))
+        .stdout(Stdio::from(OwnedFd::from(to)))
+        .spawn()?;
+    thread::spawn(move || -> io::Result<()> {
+        let mut input = Vec::new();
+        io::stdin().read_to_end(&mut input)?;
+        for piece in input.chunks(input.len() / 8 + 1) {
+            thread::sleep(LATE / 8);
+            ours.write_all(piece)?;
+        }
+        Ok(())
+    });
+    thread::sleep(LATE);
+    io::copy(&mut (&mut from).take(filled), &mut io::sink())?;
+    io::copy(&mut from, &mut io::stdout().lock())?;
+    ended_well(&mut child)
+}
+
+/// Writes until nothing more is taken, and tells how much was.
+fn fill(to: &mut UnixStream) -> io::Result<u64> {
+    let mut filled = 0;
+    loop {
+        match to.write(&[0; 4096]) {
+            Ok(length) => filled += length as u64,
+            Err(error) if error.kind() == io::ErrorKind::WouldBlock => return Ok(filled),
+            Err(error) => return Err(error),
+        }
+    }
+}
+
+fn ended_well(child: &mut Child) -> io::Result<()> {
     let status = child.wait()?;
     if status.success() {
         Ok(())

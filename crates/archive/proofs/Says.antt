@@ -1,6 +1,6 @@
 -- What a sending says, by its answer.
 use Prim.Native.Nat.{ℕ}
-use mathlib.Core.Path.{_≡_, refl}
+use mathlib.Core.Path.{_≡_}
 use mathlib.Core.List.{List, []}
 use lib.ListN.{take}
 use Rattle.wire.proofs.Choice.{was}

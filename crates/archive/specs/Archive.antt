@@ -1,23 +1,17 @@
--- What the archive sender has read, and what it sends.
+-- What the archive sender sends, and what it tells of a failure.
 use Prim.Native.Nat.{ℕ}
 use mathlib.Core.Path.{_≡_}
-use mathlib.Core.Bool.{false}
+use mathlib.Core.Bool.{Bool, false}
 use mathlib.Core.List.{List, []}
+use lib.Dec.{eqb}
 use lib.ListN.{take}
-use Rattle.io.specs.Counts.{Counts}
+use Rattle.wire.specs.Choice.{pick}
+use Rattle.stream.specs.declared.Input.{Input}
+use Rattle.stream.specs.declared.Input.the-variants.{Bytes, Unreadable}
+use Rattle.stream.specs.declared.Failure.{Failure}
+use Rattle.stream.specs.declared.Failure.the-variants.{Nothing, Reading, Writing, Refused}
 use Rattle.rules.specs.Recording.{listingSettings}
 use Rattle.rules.specs.Send.{SendOutcome, sendingNumber, sendingLength, sentOf, defaultPiece}
-use Rattle.archive.specs.declared.Input.{Input}
-use Rattle.archive.specs.declared.Input.the-variants.{Bytes, Unreadable}
-
--- how many bytes were read
-abbrev pub countOf : Input → ℕ
-countOf (Bytes n) = n
-countOf Unreadable = 0
-
--- they are at the start of the buffer
-abbrev pub Filled : Input → List ℕ → Type 0
-Filled r b = Counts (countOf r) b
 
 -- what a sending says: its number, and its bytes at the start of its output
 pub record Says (o : SendOutcome) (number : ℕ) (text : List ℕ) : Type 0 where
@@ -28,3 +22,8 @@ pub record Says (o : SendOutcome) (number : ℕ) (text : List ℕ) : Type 0 wher
 abbrev pub Archived : Input → List ℕ → List ℕ → ℕ → List ℕ → Type 0
 Archived (Bytes n) b out number text = Says (sentOf listingSettings false defaultPiece (take n b) out) number text
 Archived Unreadable b out number text = (number ≡ 0) × (text ≡ [])
+
+-- what has failed, where t says whether the sections are written: reading, the unit, which is refused by that number, or writing
+abbrev pub failureOf : Input → ℕ → Bool → Failure
+failureOf Unreadable number t = Reading
+failureOf (Bytes n) number t = pick (eqb number 0) (pick t Nothing Writing) Refused

@@ -1,30 +1,18 @@
 // The archive sender of document 01: all of standard input is one unit, whose sections go to standard output; where it is refused,
 // only the refusal's number goes to the error output.
 use libc::STDERR_FILENO;
-use libc::STDIN_FILENO;
 use libc::STDOUT_FILENO;
 use rules::Sending;
-ghost use Rattle.archive.specs.Archive.{Filled, Says, Archived};
+use stream::Failure;
+use stream::Input;
+use stream::read_some;
+use stream::write_whole;
+ghost use mathlib.Core.Path.{_≡_};
+ghost use Rattle.stream.specs.Words.{Filled};
+ghost use Rattle.archive.specs.Archive.{Says, Archived, failureOf};
 ghost use Rattle.rules.specs.Recording.{listingSettings};
 ghost use Rattle.rules.specs.Send.{sentOf, defaultPiece};
 ghost use mathlib.Core.Bool.{false};
-
-// What reading gave: so many bytes at the start of the buffer, or nothing, since it failed.
-enum Input {
-    Bytes(usize),
-    Unreadable,
-}
-
-// One read, which may give one byte; 0 bytes are the end of standard input.
-fn read_some(buffer: &mut [u8]) -> Input
-    ensures { λ r. ⌜ Filled r (now (buffer .exit)) ⌝ }
-{
-    let got = libc::read(STDIN_FILENO, buffer);
-    if got < 0 {
-        return Input::Unreadable;
-    }
-    Input::Bytes(io::count(got, buffer))
-}
 
 // Standard input to its end, or as much as the buffer has room for.
 fn read_input(buffer: &mut [u8]) -> Input
@@ -73,13 +61,38 @@ fn archive<'a>(input: Input, buffer: &[u8], out: &'a mut [u8], number: &mut u8) 
     sections(&buffer[..length], out, number)
 }
 
-fn answer(number: u8, sections: &[u8]) {
+// The refusal's number and a line's end, to the error output.
+fn tell(number: u8) {
+    let mut text = [0u8; 20];
+    let k = io::decimal(number as u64, &mut text);
+    write_whole(STDERR_FILENO, &text[..k]);
+    write_whole(STDERR_FILENO, b"\n");
+}
+
+// Writes the sections, or the number of the refusal, and answers whether the sections are written.
+fn answer(number: u8, sections: &[u8]) -> bool {
     if number == 0 {
-        io::write_all(STDOUT_FILENO, sections);
-        return;
+        return write_whole(STDOUT_FILENO, sections);
     }
-    io::print_decimal(STDERR_FILENO, number as u64);
-    io::write_all(STDERR_FILENO, b"\n");
+    tell(number);
+    false
+}
+
+// What has failed: reading, the unit, which is refused, or writing.
+fn failure(input: Input, number: u8, written: bool) -> Failure
+    ensures { λ r. ⌜ r ≡ failureOf input number written ⌝ }
+{
+    let Input::Bytes(_) = input else {
+        return Failure::Reading;
+    };
+    if number != 0 {
+        return Failure::Refused;
+    }
+    if written {
+        Failure::Nothing
+    } else {
+        Failure::Writing
+    }
 }
 
 fn main() {
@@ -88,5 +101,6 @@ fn main() {
     let mut number = 0;
     let input = read_input(&mut buffer);
     let sections = archive(input, &buffer, &mut out, &mut number);
-    answer(number, sections);
+    let written = answer(number, sections);
+    stream::say(failure(input, number, written));
 }

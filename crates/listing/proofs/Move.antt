@@ -1,17 +1,19 @@
--- A move to the start of a buffer leaves the bytes at hand the same, and so does a read behind them.
+-- A move to the start of a buffer leaves the bytes at hand the same, and so does a read after them.
 use Prim.Native.Nat.{ℕ, _+_, _-_, _≤_, _<_}
 use native.Mathlib.Omega.{arith}
 use mathlib.Core.Path.{_≡_, refl, ap, sym, _∙_}
-use mathlib.Core.Bool.{false}
+use mathlib.Core.Bool.{Bool, true, false}
 use mathlib.Core.List.{List, _++_}
-use lib.Dec.{eqb}
 use lib.ListN.{length, getD, set, take, drop, length-drop, take-append-drop}
 use lib.Seq.{length-take-le, take-at, take-take, take-append-le, drop-append-le, getD-append-add, getD-drop}
 use borrow.Author.Tests.{eqb-true}
+use Rattle.wire.specs.Choice.{either}
 use Rattle.wire.proofs.Choice.{never}
 use Rattle.wire.proofs.Lists.{over-step}
+use Rattle.stream.specs.declared.Input.{Input}
+use Rattle.stream.specs.Words.{countOf}
 use Rattle.listing.specs.declared.Walk.{Walk}
-use Rattle.listing.specs.Walk.{Fine, Kept}
+use Rattle.listing.specs.Walk.{Fine, Came, Kept}
 
 -- one byte more is moved
 pub move-step : (b : List ℕ) (f i : ℕ) → f + i < length b
@@ -41,6 +43,7 @@ moved w =
       out = w .out;
       over = w .over;
       done = w .done;
+      unreadable = w .unreadable;
       failed = w .failed;
       state = w .state;
     }
@@ -58,6 +61,7 @@ kept-move w b d f q =
         all = λ t. omega (arith, p .all t);
       };
       over = λ t. z;
+      unreadable = λ t. t;
       offset = refl;
       out = refl;
       done = refl;
@@ -65,7 +69,7 @@ kept-move w b d f q =
       state = refl;
     }
 
--- what stands before e is the same, whatever is read behind it
+-- what stands before e is the same, whatever is read after it
 front : (b ys : List ℕ) (s e : ℕ) → s ≤ e → e ≤ length b → take (e - s) (drop s (take e b ++ ys)) ≡ take (e - s) (drop s (take e b))
 front b ys s e h k =
     let l : length (take e b) ≡ e = length-take-le e b k in
@@ -78,39 +82,34 @@ hand-read b ys s e h k =
     ∙ sym (front b (drop e b) s e h k)
     ∙ ap (λ (l : List ℕ). take (e - s) (drop s l)) (take-append-drop e b)
 
--- n bytes more behind the bytes at hand; none, where the input has ended
-abbrev longer : Walk → ℕ → Walk
-longer w n =
-    record {
-      start = w .start;
-      end = w .end + n;
-      offset = w .offset;
-      out = w .out;
-      over = eqb n 0;
-      done = w .done;
-      failed = w .failed;
-      state = w .state;
-    }
+-- what was known to have failed before stays so
+pub still : (t : Bool) {u : Bool} → u ≡ true → either t u ≡ true
+unfolding either
+still true e = refl
+still false e = e
 
-pub kept-read : (w : Walk) (b ys : List ℕ) (n : ℕ) → Fine w (length b) → w .over ≡ false → Kept w b (longer w n) (take (w .end) b ++ ys)
-kept-read w b ys n f o =
+pub kept-read : {got : Input} {r : Walk} (w : Walk) (b ys : List ℕ) → Fine w (length b) → w .over ≡ false → Came w got r
+    → Kept w b r (take (w .end) b ++ ys)
+kept-read {got = got} {r = r} w b ys f o k =
     let s : ℕ = w .start in
     let e : ℕ = w .end in
+    let n : ℕ = countOf got in
     let h : e - s ≤ e + n - s = omega (arith, f .order) in
     record {
       left = λ rest p. record {
         front = sym (take-take (e - s) (e + n - s) rest h)
-            ∙ ap (take (e - s)) (p .front)
+            ∙ ap (take (e - s)) (rw (k .start, k .end) at (p .front))
             ∙ take-take (e - s) (e + n - s) (drop s (take e b ++ ys)) h
             ∙ hand-read b ys s e (f .order) (f .within);
         all = λ z. absurd (never (sym o ∙ z));
       };
-      over = λ z. omega (arith, eqb-true n 0 z);
-      offset = refl;
-      out = refl;
-      done = refl;
-      failed = refl;
-      state = refl;
+      over = λ z. omega (arith, eqb-true n 0 (sym (k .over) ∙ z), k .start, k .end);
+      unreadable = λ z. k .unreadable ∙ still _ z;
+      offset = k .offset;
+      out = k .out;
+      done = k .done;
+      failed = k .failed;
+      state = k .state;
     }
 
 pub read-within : (b : List ℕ) (e n : ℕ) → e ≤ length b → n ≤ length (take (length b - e) (drop e b)) → e + n ≤ length b

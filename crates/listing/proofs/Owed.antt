@@ -1,29 +1,32 @@
--- An offer that is cut with enough at hand is the next offer of the recording, so its line is the next that is owed.
+-- An offer that is whole at hand is the next offer of the recording, so its line is the next that is owed.
 use Prim.Native.Nat.{ℕ, _+_, _-_, _%_, _^_, _≤_, _<_}
 use native.Mathlib.Omega.{arith}
-use mathlib.Core.Logic.{_⊎_, inl, inr}
+use mathlib.Core.Logic.{inl, inr}
 use mathlib.Core.Path.{_≡_, refl, ap, sym, _∙_}
-use mathlib.Core.Bool.{Bool, true, false, true≢false}
+use mathlib.Core.Bool.{Bool, true, false, not, true≢false}
 use mathlib.Core.List.{List, [], _∷_, _++_, append-assoc, append-nil}
-use lib.Dec.{leb}
+use lib.Dec.{ltb}
 use lib.ListN.{length, replicate, take, drop, length-append, length-take, length-drop}
-use lib.Seq.{length-take-le, take-at, drop-at, drop-drop, take-add, take-append-add}
-use borrow.Author.Tests.{leb-true, ltb-false}
-use Rattle.wire.specs.Choice.{pick, either}
+use lib.Seq.{getD-take, length-take-le, take-at, drop-at, drop-drop, take-add, take-all, take-append-add}
+use borrow.Author.Tests.{leb-true, le-leb, ltb-false}
+use Rattle.wire.specs.Bytes.{numberAt}
+use Rattle.wire.specs.Choice.{pick, both, either}
 use Rattle.wire.proofs.Choice.{either-false}
+use Rattle.rules.specs.Section.{sectionLength}
 use Rattle.rules.specs.declared.Settings.{Settings}
 use Rattle.rules.specs.declared.Step.{Step}
 use Rattle.rules.specs.declared.State.{State}
 use Rattle.rules.specs.declared.State.the-variants.{Idle}
 use Rattle.rules.specs.Recording.{offerLength, offersWithin, offers}
 use Rattle.rules.specs.Step.{Outcome, Does, stepOf}
-use Rattle.rules.proofs.Offer.{offer-within, offer-some, offer-window, offers-more}
+use Rattle.rules.proofs.Offer.{offer-long, offer-within, offer-some, offers-more}
 use Rattle.listing.specs.declared.Walk.{Walk}
-use Rattle.listing.specs.Text.{line, Put}
+use Rattle.listing.specs.Text.{line}
+use Rattle.wire.specs.Puts.{Puts}
 use Rattle.rules.specs.Recording.{listingSettings}
 use Rattle.listing.specs.Lines.{linesOf, listing}
-use Rattle.listing.specs.Walk.{Fine, atHand, Left, ready, Stays, Kept, offered, outcomeOf, Served, full, Gave, written, owed, Offered, Turned}
-use Rattle.listing.proofs.Text.{put-front}
+use Rattle.listing.specs.Walk.{Fine, atHand, Left, whole, ready, Stays, Kept, offered, outcomeOf, Served, full, due, Gave, written, owed, Offered, Unread, Waits, Turned}
+use Rattle.wire.proofs.Puts.{puts-front}
 
 -- ---- an offer within the bytes at hand
 pub stop-within : (b : List ℕ) (s e n : ℕ) → s ≤ e → e ≤ length b → n ≡ offerLength (take (e - s) (drop s b)) → s + n ≤ e
@@ -40,13 +43,14 @@ onward w n offset out state =
       out = out;
       over = w .over;
       done = false;
+      unreadable = w .unreadable;
       failed = w .failed;
       state = state;
     }
 
 pub served : {o o′ u′ : List ℕ} {at z n : ℕ} {s : Step} (c : Settings) (w : Walk) (b u : List ℕ) → n ≡ offerLength (atHand w b)
     → Does (stepOf c (w .state) (take (w .start + n - w .start) (drop (w .start) b)) u) s u′
-    → Put o (w .out) (line (w .offset) (s .answer)) at o′ → z ≡ (w .offset + n) % 2 ^ 64
+    → Puts o (w .out) (line (w .offset) (s .answer)) at o′ → z ≡ (w .offset + n) % 2 ^ 64
     → Served c w b o u (onward w n z at (s .state)) o′ u′
 served {n = n} c w b u e d k x =
     let y : w .start + n - w .start ≡ n = omega arith in
@@ -56,6 +60,7 @@ served {n = n} c w b u e d k x =
       end = refl;
       over = refl;
       done = refl;
+      unreadable = refl;
       failed = refl;
       offset = x ∙ rw e;
       state = ap (λ (s : Step). s .state) (f .step);
@@ -64,7 +69,7 @@ served {n = n} c w b u e d k x =
     }
 
 -- ---- the recording's next offer
--- the bytes at hand are the first n of them and those behind
+-- the bytes at hand are the first n of them and those after these
 hand-split : (b : List ℕ) (s e n : ℕ) → s + n ≤ e
     → take n (drop s b) ++ take (e - (s + n)) (drop (s + n) b) ≡ take (e - s) (drop s b)
 hand-split b s e n h =
@@ -84,41 +89,69 @@ front-before b rest s e n h l f =
     ∙ ap (λ (t : List ℕ). p ++ t) f
     ∙ hand-split b s e n h
 
-abbrev Enough : ℕ → List ℕ → Type 0
-Enough n rest = (4098 ≤ n) ⊎ (length rest ≤ n)
+section-length-front : (n : ℕ) (r : List ℕ) → 3 ≤ n → sectionLength (take n r) ≡ sectionLength r
+unfolding sectionLength numberAt
+section-length-front n r h = rw (getD-take n r 1 0 (omega arith), getD-take n r 2 0 (omega arith))
 
-enough : (w : Walk) (b rest : List ℕ) → ready w ≡ true → Left w b rest → Enough (w .end - w .start) rest
+-- an offer that is whole in the first n bytes is the offer of all of them
+whole-offer : (n : ℕ) (r : List ℕ) → whole (take n r) ≡ true → offerLength r ≡ offerLength (take n r)
+unfolding whole
+whole-offer n r h =
+    let p : List ℕ = take n r in
+    let long = leb-true _ (length p) h in
+    let l = length-take n r in
+    let s : sectionLength p ≡ sectionLength r = section-length-front n r (omega (arith, long)) in
+    omega (arith, long, offer-long r (omega (arith, long)), offer-long p (omega (arith, long)))
+
+-- where an offer may be cut, that of the bytes at hand is the recording's
+pub same-offer : (w : Walk) (b rest : List ℕ) → ready w b ≡ true → Left w b rest → offerLength rest ≡ offerLength (atHand w b)
 unfolding ready either
-enough w b rest h l = go (w .over) refl h
+same-offer w b rest h l = go (w .over) refl h ∙ ap offerLength (l .front)
   where
-    go : (t : Bool) → w .over ≡ t → either t (leb 4098 (w .end - w .start)) ≡ true → Enough (w .end - w .start) rest
-    go true e q = inr (l .all e)
-    go false e q = inl (leb-true _ _ q)
+    n : ℕ
+    n = w .end - w .start
 
--- with enough at hand, the offer of the bytes at hand is the recording's
-pub same-offer : (w : Walk) (b rest : List ℕ) → ready w ≡ true → Left w b rest → offerLength rest ≡ offerLength (atHand w b)
-same-offer w b rest h l = sym (offer-window (w .end - w .start) rest (enough w b rest h l)) ∙ ap offerLength (l .front)
+    go : (t : Bool) → w .over ≡ t → either t (whole (atHand w b)) ≡ true → offerLength rest ≡ offerLength (take n rest)
+    go true e q = ap offerLength (sym (take-all n rest (l .all e)))
+    go false e q = whole-offer n rest (ap whole (l .front) ∙ q)
+
+-- 4,098 bytes hold a whole offer: section_length has 12 bits
+pub longest : (s : List ℕ) → 4098 ≤ length s → true ≡ whole s
+unfolding whole sectionLength
+longest s h = sym (le-leb (3 + sectionLength s) (length s) (omega arith))
 
 -- ---- what a turn owes
--- no line's room is short, so nothing is written
-nothing : (w : Walk) (o : List ℕ) → full w (length o) ≡ false → written w o ≡ []
+abbrev Quiet : Walk → List ℕ → List ℕ → Type 0
+Quiet w b o = due w (ready w b) (length o) ≡ false
+
+-- no write is due, so nothing is written
+nothing : (w : Walk) (b o : List ℕ) → Quiet w b o → written w b o ≡ []
 unfolding written pick
-nothing w o h = rw h
+nothing w b o h = rw h
 
 -- a turn that goes on
 never : {A : Type 0} (w r : Walk) → w .done ≡ false → r .done ≡ w .done → r .done ≡ true → A
 never w r f e t = let z : true ≡ false = sym t ∙ e ∙ f in absurd (true≢false z)
 
-pub turned-kept : {b b′ o u : List ℕ} {r : Walk} (c : Settings) (w : Walk) → w .done ≡ false → full w (length o) ≡ false → Kept w b r b′
-    → Turned c w b o u r b′ o u
+-- no write is due and no offer may be cut: nothing is to be written
+waits : (w : Walk) (b o : List ℕ) → Quiet w b o → ready w b ≡ false → Waits w b
+unfolding due both
+waits w b o h n =
+    let e : both (not false) (ltb 0 (w .out)) ≡ false = rw n at (either-false _ _ h .1) in
+    record { unready = n; empty = omega (arith, ltb-false 0 (w .out) e) }
+
+pub turned-kept : {b b′ o u : List ℕ} {r : Walk} (c : Settings) (w : Walk) → w .done ≡ false → Quiet w b o → ready w b ≡ false
+    → Kept w b r b′ → Turned c w b o u r b′ o u
 unfolding owed
-turned-kept {o = o} {r = r} c w f h k =
+turned-kept {b = b} {o = o} {r = r} c w f h n k =
     record {
       took = [];
       left = k .left;
-      same = λ rest l. rw (nothing w o h, k .out, k .offset, k .state);
+      same = λ rest l. rw (nothing w b o h, k .out, k .offset, k .state);
       done = never w r f (k .done);
       failed = λ q. k .failed;
+      reads = inr (waits w b o h n);
+      unreadable = k .unreadable;
     }
 
 pub left-stays : {r : Walk} (w : Walk) (b rest : List ℕ) → Stays w r → Left r b rest → Left w b rest
@@ -128,16 +161,21 @@ left-stays w b rest s l =
 pub offered-stays : {r : Walk} (w : Walk) → Stays w r → Offered w → Offered r
 offered-stays w s a = (s .over ∙ a .0, s .start ∙ a .1 ∙ sym (s .end))
 
-pub turned-finish : {b o u : List ℕ} {r : Walk} (c : Settings) (w : Walk) → full w (length o) ≡ false → Stays w r → r .out ≡ w .out
+unread : {r : Walk} (w : Walk) (b : List ℕ) → Stays w r → Unread w b r b
+unread w b s = record { buffer = refl; end = s .end; over = s .over; unreadable = s .unreadable }
+
+pub turned-finish : {b o u : List ℕ} {r : Walk} (c : Settings) (w : Walk) → Quiet w b o → Stays w r → r .out ≡ w .out
     → r .failed ≡ w .failed → Offered w → Turned c w b o u r b o u
 unfolding owed
 turned-finish {b = b} {o = o} c w h s e f a =
     record {
       took = [];
       left = λ rest l. left-stays w b rest s l;
-      same = λ rest l. rw (nothing w o h, e, s .offset, s .state);
+      same = λ rest l. rw (nothing w b o h, e, s .offset, s .state);
       done = λ t. offered-stays w s a;
       failed = λ q. f;
+      reads = inl (unread w b s);
+      unreadable = λ t. s .unreadable ∙ t;
     }
 
 -- what a write is given was owed first
@@ -146,7 +184,7 @@ pub gave-owed : {o text : List ℕ} {r : Walk} (c : Settings) (w : Walk) (u rest
 unfolding owed
 gave-owed c w u rest g = rw (g .given, g .out, g .stays .offset, g .stays .state)
 
-pub turned-flush : {b o u : List ℕ} {r : Walk} (c : Settings) (w : Walk) → w .done ≡ false → full w (length o) ≡ true
+pub turned-flush : {b o u : List ℕ} {r : Walk} (c : Settings) (w : Walk) → w .done ≡ false → due w (ready w b) (length o) ≡ true
     → Gave w o (take (w .out) o) r → Turned c w b o u r b o u
 unfolding written pick
 turned-flush {b = b} {o = o} {u = u} {r = r} c w f h g =
@@ -156,6 +194,8 @@ turned-flush {b = b} {o = o} {u = u} {r = r} c w f h g =
       same = λ rest l. rw h (gave-owed c w u rest g);
       done = never w r f (g .done);
       failed = λ q. absurd (true≢false (sym h ∙ q));
+      reads = inl (unread w b (g .stays));
+      unreadable = λ t. g .stays .unreadable ∙ t;
     }
 
 module _
@@ -172,7 +212,7 @@ module _
   long : length p ≡ n
   long = length-take-le n (drop (w .start) b) (omega (arith, length-drop (w .start) b, stop, fine .within))
 
-  -- the offer and what is left behind it were left before
+  -- the offer and what is left after it were left before
   before : (rest : List ℕ) → Left r b rest → Left w b (p ++ rest)
   before rest l =
       record {
@@ -186,23 +226,23 @@ module _
       offer-some (atHand w b) (omega (arith, apart, fine .order, length-take-le (w .end - w .start) (drop (w .start) b) h))
 
   -- the offer is the recording's next
-  next : (rest : List ℕ) → Left r b rest → ready w ≡ true → (w .start ≡ w .end → ⊥) → offers (p ++ rest) ≡ p ∷ offers rest
+  next : (rest : List ℕ) → Left r b rest → ready w b ≡ true → (w .start ≡ w .end → ⊥) → offers (p ++ rest) ≡ p ∷ offers rest
   next rest l h apart =
       let q : offerLength (p ++ rest) ≡ n = same-offer w b (p ++ rest) h (before rest l) in
       offers-more (p ++ rest) (omega (arith, length-append p rest, long, some apart))
       ∙ rw (q, take-at p rest n long, drop-at p rest n long)
 
-  line-owed : ready w ≡ true → (w .start ≡ w .end → ⊥) → full w (length o) ≡ false → (rest : List ℕ) → Left r b rest
-      → owed c w o u (p ++ rest) ≡ written w o ++ owed c r o′ u′ rest
+  line-owed : ready w b ≡ true → (w .start ≡ w .end → ⊥) → Quiet w b o → (rest : List ℕ) → Left r b rest
+      → owed c w o u (p ++ rest) ≡ written w b o ++ owed c r o′ u′ rest
   unfolding owed linesOf
   line-owed h apart k rest l =
       let x : Outcome = outcomeOf c w b u in
       let more : List ℕ = linesOf c ((w .offset + length p) % 2 ^ 64) (x .step .state) (x .buffer) (offers rest) in
       ap (λ (x : List (List ℕ)). take (w .out) o ++ linesOf c (w .offset) (w .state) u x) (next rest l h apart)
       ∙ sym (append-assoc (take (w .out) o) (line (w .offset) (x .step .answer)) more)
-      ∙ rw (nothing w o k, put-front (s .text), s .offset, s .state, s .unit, long)
+      ∙ rw (nothing w b o k, puts-front (s .text), s .offset, s .state, s .unit, long)
 
-  pub turned-serve : ready w ≡ true → (w .start ≡ w .end → ⊥) → full w (length o) ≡ false → Turned c w b o u r b o′ u′
+  pub turned-serve : ready w b ≡ true → (w .start ≡ w .end → ⊥) → Quiet w b o → Turned c w b o u r b o′ u′
   turned-serve h apart k =
       record {
         took = p;
@@ -210,29 +250,40 @@ module _
         same = line-owed h apart k;
         done = λ t. absurd (true≢false (sym t ∙ s .done));
         failed = λ q. s .failed;
+        reads = inl (record { buffer = refl; end = s .end; over = s .over; unreadable = s .unreadable });
+        unreadable = λ t. s .unreadable ∙ t;
       }
 
--- ready with nothing at hand: the input has ended
-pub ended : (w : Walk) → ready w ≡ true → w .start ≡ w .end → w .over ≡ true
-unfolding ready either
-ended w h e = go (w .over) h
+-- an offer may be cut with nothing at hand: the input has ended
+pub ended : (w : Walk) (b : List ℕ) → ready w b ≡ true → w .start ≡ w .end → w .over ≡ true
+unfolding ready either whole
+ended w b h e = go (w .over) h
   where
-    go : (t : Bool) → either t (leb 4098 (w .end - w .start)) ≡ true → t ≡ true
-    go true q = refl
-    go false q = absurd (omega (arith, leb-true 4098 (w .end - w .start) q))
+    none : length (atHand w b) ≤ 0
+    none = omega (arith, length-take (w .end - w .start) (drop (w .start) b))
 
--- not ready: the input has not ended
-pub unended : (w : Walk) → ready w ≡ false → w .over ≡ false
+    go : (t : Bool) → either t (whole (atHand w b)) ≡ true → t ≡ true
+    go true q = refl
+    go false q = absurd (omega (arith, none, leb-true (3 + sectionLength (atHand w b)) (length (atHand w b)) q))
+
+-- no offer may be cut: the input has not ended
+pub unended : (w : Walk) (b : List ℕ) → ready w b ≡ false → w .over ≡ false
 unfolding ready
-unended w h = either-false _ _ h .0
+unended w b h = either-false _ _ h .0
 
 pub fine-stays : {r : Walk} {k : ℕ} (w : Walk) → Stays w r → Fine w k → Fine r k
 fine-stays w s f = record { order = rw (s .start, s .end) (f .order); within = rw (s .end) (f .within) }
 
--- not full: a line fits
-pub roomy : (w : Walk) (k : ℕ) → full w k ≡ false → w .out ≤ k → w .out + 63 ≤ k
-unfolding full
-roomy w k h m = omega (arith, ltb-false (k - w .out) 63 h)
+-- no write is due: a line fits
+pub roomy : (w : Walk) (t : Bool) (k : ℕ) → due w t k ≡ false → w .out ≤ k → w .out + 63 ≤ k
+unfolding full due
+roomy w t k h m = omega (arith, ltb-false (k - w .out) 63 (either-false _ _ h .0))
+
+-- where a turn may wait, only lines of the rest are owed
+pub owed-waits : (c : Settings) (w : Walk) (b o u rest : List ℕ) → Waits w b
+    → owed c w o u rest ≡ linesOf c (w .offset) (w .state) u (offers rest)
+unfolding owed
+owed-waits c w b o u rest h = rw (h .empty)
 
 -- ---- the start and the end
 pub owed-fresh : (w : Walk) (o recording : List ℕ) → w .out ≡ 0 → w .offset ≡ 0 → w .state ≡ Idle

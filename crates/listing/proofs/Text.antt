@@ -1,55 +1,18 @@
--- Text put behind text is the two joined; and a number's digits are those before the last, and the last.
+-- A number's digits are those before the last, and the last.
 use Prim.Native.Nat.{ℕ, zero, suc, _+_, _/_, _%_, _^_, _≤_, _<_}
 use native.Mathlib.Decide.{decLe}
 use native.Mathlib.Nat.{pow-suc}
-use native.Mathlib.Numerals.{add-one}
 use native.Mathlib.Omega.{arith}
-use mathlib.Core.Path.{_≡_, refl, ap, sym, _∙_}
-use mathlib.Core.List.{List, [], _∷_, _++_, append-assoc}
-use lib.ListN.{length, set, take, drop, length-append, length-drop}
-use lib.Seq.{length-take-le, take-at, drop-at, drop-drop, set-split}
+use mathlib.Core.Path.{_≡_, ap, sym, _∙_}
+use mathlib.Core.List.{List, [], _∷_, _++_}
+use lib.ListN.{length, length-append}
 use borrow.Author.Tests.{lt-ltb, le-ltb}
 use Rattle.wire.specs.Choice.{pick}
 use Rattle.rules.specs.declared.Answer.{Answer}
 use Rattle.rules.specs.Step.{numberOf, lengthOf}
-use Rattle.listing.specs.Text.{decimalWithin, decimal, field, line, Put}
-
--- ---- text in a buffer
-module _ {b d o : List ℕ} {at r : ℕ} (p : Put b at d r o) where
-  head : length (take at b ++ d) ≡ r
-  head = omega (arith, length-append (take at b) d, length-take-le at b (omega (arith, p .room)), p .end)
-
-  split : o ≡ (take at b ++ d) ++ drop (at + length d) b
-  split = p .bytes ∙ sym (append-assoc (take at b) d (drop (at + length d) b))
-
-  pub put-length : length o ≡ length b
-  put-length =
-      ap length split
-      ∙ length-append (take at b ++ d) (drop (at + length d) b)
-      ∙ omega (arith, head, length-drop (at + length d) b, p .room, p .end)
-
-  -- the buffer up to the text's end
-  pub put-front : take r o ≡ take at b ++ d
-  put-front = ap (take r) split ∙ take-at (take at b ++ d) (drop (at + length d) b) r head
-
-  pub put-then : {e q : List ℕ} {s : ℕ} → Put o r e s q → Put b at (d ++ e) s q
-  put-then {e} {q} {s} k =
-      let n : length (d ++ e) ≡ length d + length e = length-append d e in
-      let m : at + length d + length e ≡ at + length (d ++ e) = omega (arith, n) in
-      let u : drop (r + length e) o ≡ drop (at + length (d ++ e)) b =
-      sym (drop-drop (length e) r o)
-      ∙ ap (drop (length e)) (ap (drop r) split ∙ drop-at (take at b ++ d) (drop (at + length d) b) r head)
-      ∙ drop-drop (length e) (at + length d) b
-      ∙ ap (λ (x : ℕ). drop x b) m in
-      record {
-        end = omega (arith, n, p .end, k .end);
-        room = omega (arith, n, p .end, k .room, put-length);
-        bytes = rw (put-front, u) at (k .bytes) ∙ append-assoc (take at b) d (e ++ drop (at + length (d ++ e)) b)
-            ∙ ap (λ (l : List ℕ). take at b ++ l) (sym (append-assoc d e (drop (at + length (d ++ e)) b)));
-      }
-
-pub put-one : (b : List ℕ) (at x : ℕ) → at + 1 ≤ length b → Put b at (x ∷ []) (at + 1) (set b at x)
-put-one b at x h = record { end = refl; room = h; bytes = rw (add-one at) (set-split b at x (omega arith)) }
+use Rattle.listing.specs.Text.{decimalWithin, decimal, field, line}
+use Rattle.wire.specs.Puts.{Puts}
+use Rattle.wire.proofs.Puts.{puts-then}
 
 -- ---- numbers in decimal
 within-last : (k n : ℕ) → n < 10 → decimalWithin (suc k) n ≡ (48 + n) ∷ []
@@ -101,22 +64,22 @@ field-short : (n mark : ℕ) → length (field n mark) ≤ 21
 unfolding field
 field-short n mark = omega (arith, length-append (decimal n) (mark ∷ []), decimal-short n)
 
-pub field-end : {b o : List ℕ} {at r : ℕ} (n mark : ℕ) → Put b at (field n mark) r o → r ≤ at + 21
+pub field-end : {b o : List ℕ} {at r : ℕ} (n mark : ℕ) → Puts b at (field n mark) r o → r ≤ at + 21
 field-end n mark p = omega (arith, p .end, field-short n mark)
 
 -- ---- a number put digit by digit
-pub put-last : {b o : List ℕ} {at r n d : ℕ} → n < 10 → d ≡ 48 + n → Put b at (d ∷ []) r o → Put b at (decimal n) r o
+pub put-last : {b o : List ℕ} {at r n d : ℕ} → n < 10 → d ≡ 48 + n → Puts b at (d ∷ []) r o → Puts b at (decimal n) r o
 put-last {n = n} h e p = rw (decimal-last n h) (rw e at p)
 
 pub put-more : {b o q : List ℕ} {at r s n d : ℕ} → n < 2 ^ 64 → 10 ≤ n → d ≡ 48 + n % 10
-    → Put b at (decimal (n / 10)) r o → Put o r (d ∷ []) s q → Put b at (decimal n) s q
-put-more {n = n} f h e p k = rw (decimal-more n f h) (put-then p (rw e at k))
+    → Puts b at (decimal (n / 10)) r o → Puts o r (d ∷ []) s q → Puts b at (decimal n) s q
+put-more {n = n} f h e p k = rw (decimal-more n f h) (puts-then p (rw e at k))
 
 pub decimal-longer : (n : ℕ) → n < 2 ^ 64 → 10 ≤ n → length (decimal n) ≡ length (decimal (n / 10)) + 1
 decimal-longer n f h = ap length (decimal-more n f h) ∙ length-append (decimal (n / 10)) ((48 + n % 10) ∷ [])
 
 -- ---- a line put field by field
 pub put-line : {b o p q : List ℕ} {at r s t m l : ℕ} (offset : ℕ) (a : Answer) → m ≡ numberOf a → l ≡ lengthOf a
-    → Put b at (field offset 32) r o → Put o r (field m 32) s p → Put p s (field l 10) t q → Put b at (line offset a) t q
+    → Puts b at (field offset 32) r o → Puts o r (field m 32) s p → Puts p s (field l 10) t q → Puts b at (line offset a) t q
 unfolding line
-put-line offset a e f x y z = put-then x (put-then (rw e at y) (rw f at z))
+put-line offset a e f x y z = puts-then x (puts-then (rw e at y) (rw f at z))

@@ -1,9 +1,7 @@
 -- The text of one line.
-use Prim.Native.Nat.{ℕ, zero, suc, _+_, _/_, _%_, _≤_}
-use mathlib.Core.Path.{_≡_}
+use Prim.Native.Nat.{ℕ, zero, suc, _+_, _/_, _%_}
 use mathlib.Core.List.{List, [], _∷_, _++_}
 use lib.Dec.{ltb}
-use lib.ListN.{length, take, drop}
 use Rattle.wire.specs.Choice.{pick}
 use Rattle.rules.specs.declared.Answer.{Answer}
 use Rattle.rules.specs.Step.{numberOf, lengthOf}
@@ -24,9 +22,3 @@ field n mark = decimal n ++ (mark ∷ [])
 -- offset, answer, unit length: single spaces between them, and a line's end
 unfoldable pub line : ℕ → Answer → List ℕ
 line offset a = field offset 32 ++ (field (numberOf a) 32 ++ field (lengthOf a) 10)
-
--- text is put into the buffer b from `at` to r, and the rest of the buffer is as it was
-pub record Put (b : List ℕ) (at : ℕ) (text : List ℕ) (r : ℕ) (b′ : List ℕ) : Type 0 where
-  pub end : r ≡ at + length text
-  pub room : at + length text ≤ length b
-  pub bytes : b′ ≡ take at b ++ (text ++ drop (at + length text) b)

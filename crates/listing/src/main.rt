@@ -1,24 +1,28 @@
 // Cuts standard input into offers, gives each to the receiver, and writes a line for each: offset, answer, unit length.
 // Document 01, 'Listing'.
-use libc::STDIN_FILENO;
 use libc::STDOUT_FILENO;
 use rules::Answer;
 use rules::Settings;
 use rules::State;
+use stream::Failure;
+use stream::Input;
 ghost use mathlib.Core.Path.{_≡_};
 ghost use mathlib.Core.Bool.{true, false};
 ghost use mathlib.Core.List.{List, [], _∷_, _++_};
-ghost use Prim.Native.Nat.{ℕ, _+_, _≤_, _<_};
+ghost use Prim.Native.Nat.{ℕ, _+_, _^_, _≤_, _<_};
 ghost use lib.ListN.{length, drop, take, replicate};
-ghost use Rattle.listing.specs.Text.{decimal, field, line, Put};
-ghost use Rattle.rules.specs.declared.Settings.{Settings as Given};
+ghost use Rattle.listing.specs.Text.{decimal, field, line};
+ghost use Rattle.wire.specs.Puts.{Puts};
+ghost use Rattle.rules.specs.declared.Settings.{Settings as AnySettings};
 ghost use Rattle.rules.specs.Recording.{listingSettings};
 ghost use Rattle.listing.specs.Lines.{listing};
-ghost use Rattle.listing.specs.Walk.{Fine, Left, ready, Stays, Kept, Served, Room, full, Gave, owed, Turned};
-ghost use Rattle.listing.specs.Run.{Ended, Ran};
+ghost use Rattle.stream.specs.Words.{countOf};
+ghost use Rattle.listing.specs.Walk.{Fine, Left, whole, ready, Stays, Came, Kept, Served, Room, full, due, Wrote, Gave, owed, Turned};
+ghost use Rattle.listing.specs.Turns.{Fresh, Ended, Listed, failureOf};
 
 // The bytes at hand are start..end of the input's buffer, the first of them is number `offset` of the input, and the output's
-// buffer holds `out` bytes of whole lines. over: the input has ended; done: all of it is offered; failed: a write failed.
+// buffer holds `out` bytes of whole lines. over: the input has ended; done: all of it is offered; unreadable: a read failed, which
+// ends the input too; failed: a write failed.
 struct Walk {
     start: usize,
     end: usize,
@@ -26,6 +30,7 @@ struct Walk {
     out: usize,
     over: bool,
     done: bool,
+    unreadable: bool,
     failed: bool,
     state: State,
 }
@@ -33,7 +38,7 @@ struct Walk {
 // Puts one byte at `at` and answers where it ends.
 fn put_byte(output: &mut [u8], at: usize, byte: u8) -> usize
     requires { ⌜ at + 1 ≤ length (now output) ⌝ }
-    ensures { λ r. ⌜ Put (now (output .entry)) at (byte ∷ []) r (now (output .exit)) ⌝ }
+    ensures { λ r. ⌜ Puts (now (output .entry)) at (byte ∷ []) r (now (output .exit)) ⌝ }
 {
     output[at] = byte;
     at + 1
@@ -50,7 +55,7 @@ fn digit(n: u64) -> u8
 // Puts a number in decimal: the digits before the last, then the last.
 fn put_decimal(output: &mut [u8], at: usize, n: u64) -> usize
     requires { ⌜ at + length (decimal n) ≤ length (now output) ⌝ }
-    ensures { λ r. ⌜ Put (now (output .entry)) at (decimal n) r (now (output .exit)) ⌝ }
+    ensures { λ r. ⌜ Puts (now (output .entry)) at (decimal n) r (now (output .exit)) ⌝ }
 {
     if n < 10 {
         return put_byte(output, at, digit(n));
@@ -62,7 +67,7 @@ fn put_decimal(output: &mut [u8], at: usize, n: u64) -> usize
 // Puts a number and the byte behind it.
 fn put_field(output: &mut [u8], at: usize, n: u64, mark: u8) -> usize
     requires { ⌜ at + 21 ≤ length (now output) ⌝ }
-    ensures { λ r. ⌜ Put (now (output .entry)) at (field n mark) r (now (output .exit)) ⌝ }
+    ensures { λ r. ⌜ Puts (now (output .entry)) at (field n mark) r (now (output .exit)) ⌝ }
 {
     let end = put_decimal(output, at, n);
     put_byte(output, end, mark)
@@ -70,7 +75,7 @@ fn put_field(output: &mut [u8], at: usize, n: u64, mark: u8) -> usize
 
 fn put_line(output: &mut [u8], at: usize, offset: u64, answer: Answer) -> usize
     requires { ⌜ at + 63 ≤ length (now output) ⌝ }
-    ensures { λ r. ⌜ Put (now (output .entry)) at (line offset answer) r (now (output .exit)) ⌝ }
+    ensures { λ r. ⌜ Puts (now (output .entry)) at (line offset answer) r (now (output .exit)) ⌝ }
 {
     let number = answer_numbers::number_of(answer) as u64;
     let length = answer_numbers::length_of(answer) as u64;
@@ -82,7 +87,7 @@ fn put_line(output: &mut [u8], at: usize, offset: u64, answer: Answer) -> usize
 // One offer: the receiver gets it, and its line is put into the output's buffer.
 fn serve(settings: Settings, walk: Walk, input: &[u8], output: &mut [u8], unit: &mut [u8]) -> Walk
     requires { ⌜ Fine walk (length (now input)) ⌝ }
-    requires { ⌜ ready walk ≡ true ⌝ }
+    requires { ⌜ ready walk (now input) ≡ true ⌝ }
     requires { ⌜ walk .out + 63 ≤ length (now output) ⌝ }
     ensures { λ r. ⌜ Served settings walk (now (input .entry)) (now (output .entry)) (now (unit .entry))
         r (now (output .exit)) (now (unit .exit)) ⌝ }
@@ -105,6 +110,7 @@ fn serve(settings: Settings, walk: Walk, input: &[u8], output: &mut [u8], unit: 
         out: at,
         over: walk.over,
         done: false,
+        unreadable: walk.unreadable,
         failed: walk.failed,
         state: after,
     }
@@ -122,16 +128,23 @@ fn move_down(buffer: &mut [u8], from: usize, n: usize)
     }
 }
 
-// One read, of as much as there is room for: 0 at the end of the input, where it cannot be read, and where there is no room.
-fn read(buffer: &mut [u8]) -> usize
-    requires { ⌜ 0 < length (now buffer) ⌝ }
-    ensures { λ r. ⌜ r ≤ length (now (buffer .entry)) ⌝ }
+// What a read into the room after the bytes at hand gave: more of them, the end of the input, or a failure, which ends it too.
+fn came(walk: Walk, got: Input) -> Walk
+    requires { ⌜ walk .end + countOf got < 2 ^ 64 ⌝ }
+    ensures { λ r. ⌜ Came walk got r ⌝ }
 {
-    let got = libc::read(STDIN_FILENO, buffer);
-    io::count(got, buffer)
+    let mut after = walk;
+    let Input::Bytes(n) = got else {
+        after.over = true;
+        after.unreadable = true;
+        return after;
+    };
+    after.end = walk.end + n;
+    after.over = n == 0;
+    after
 }
 
-// More input: one read behind the bytes at hand; where the room there is short, they move to the front first.
+// More input: one read after the bytes at hand; where the room there is short, they move to the front first.
 fn refill(walk: Walk, input: &mut [u8]) -> Walk
     requires { ⌜ Fine walk (length (now input)) ⌝ }
     requires { ⌜ walk .over ≡ false ⌝ }
@@ -140,21 +153,19 @@ fn refill(walk: Walk, input: &mut [u8]) -> Walk
 {
     let start = walk.start;
     let end = walk.end;
-    let mut after = walk;
     if input.len() - end < 4098 {
         let n = end - start;
         move_down(input, start, n);
+        let mut after = walk;
         after.start = 0;
         after.end = n;
         return after;
     }
-    let n = read(&mut input[end..]);
-    after.end = end + n;
-    after.over = n == 0;
-    after
+    let got = stream::read_some(&mut input[end..]);
+    came(walk, got)
 }
 
-// What the output's buffer holds. Both writes, that of a full buffer and the last, take their bytes from here.
+// What the output's buffer holds. Each write takes its bytes from here.
 fn pending<'a>(walk: Walk, output: &'a [u8]) -> &'a [u8]
     requires { ⌜ Room walk (length (now output)) ⌝ }
     ensures { λ r. ⌜ now r ≡ take (walk .out) (now (output .entry)) ⌝ }
@@ -163,15 +174,23 @@ fn pending<'a>(walk: Walk, output: &'a [u8]) -> &'a [u8]
     &output[..out]
 }
 
-// The one write to standard output: what it is given has to be all that the output's buffer holds, which is empty then.
+// What a write of all that the output's buffer holds answered: the buffer is empty then, and a failure is not forgotten.
+fn wrote(walk: Walk, whole: bool) -> Walk
+    ensures { λ r. ⌜ Wrote walk whole r ⌝ }
+{
+    let mut after = walk;
+    after.out = 0;
+    after.failed = wire::either(walk.failed, !whole);
+    after
+}
+
+// The one write to standard output: what it is given has to be all that the output's buffer holds.
 fn write(walk: Walk, output: &[u8], text: &[u8]) -> Walk
     requires { ⌜ now text ≡ take (walk .out) (now output) ⌝ }
     ensures { λ r. ⌜ Gave walk (now (output .entry)) (now (text .entry)) r ⌝ }
 {
-    let mut after = walk;
-    after.out = 0;
-    after.failed = !io::write_all(STDOUT_FILENO, text);
-    after
+    let whole = stream::write_whole(STDOUT_FILENO, text);
+    wrote(walk, whole)
 }
 
 fn flush(walk: Walk, output: &[u8]) -> Walk
@@ -187,7 +206,7 @@ fn finish(walk: Walk) -> Walk
     requires { ⌜ walk .start ≡ walk .end ⌝ }
     ensures { λ r. ⌜ Stays walk r ⌝ }
     ensures { λ r. ⌜ (r .out ≡ walk .out) × (r .done ≡ true) × (r .failed ≡ walk .failed) ⌝ }
-    ensures { λ r. ⌜ ((c : Given) (b o u rest : List ℕ) → Left r b rest → owed c r o u rest ≡ take (r .out) o) ⌝ }
+    ensures { λ r. ⌜ ((c : AnySettings) (b o u rest : List ℕ) → Left r b rest → owed c r o u rest ≡ take (r .out) o) ⌝ }
 {
     let mut after = walk;
     after.done = true;
@@ -201,14 +220,35 @@ fn full(walk: Walk, n: usize) -> bool
     n - walk.out < 63
 }
 
-fn ready(walk: Walk) -> bool
-    requires { ⌜ walk .start ≤ walk .end ⌝ }
-    ensures { λ r. ⌜ r ≡ ready walk ⌝ }
+// A write is due: a line may not fit, or the turn would read although there is something to write, and a read may wait.
+fn due(walk: Walk, ready: bool, n: usize) -> bool
+    requires { ⌜ Room walk n ⌝ }
+    ensures { λ r. ⌜ r ≡ due walk ready n ⌝ }
 {
-    wire::either(walk.over, 4098 <= walk.end - walk.start)
+    let idle = wire::both(!ready, 0 < walk.out);
+    wire::either(full(walk, n), idle)
 }
 
-// One turn: a flush, more input, the end, or an offer.
+// The bytes hold a whole offer. The longest has 4,098 bytes: with as many there is no need to look.
+fn whole(s: &[u8]) -> bool
+    ensures { λ r. ⌜ r ≡ whole (now (s .entry)) ⌝ }
+{
+    if 4098 <= s.len() {
+        return true;
+    }
+    3 + section_fields::section_length(s) <= s.len()
+}
+
+fn ready(walk: Walk, input: &[u8]) -> bool
+    requires { ⌜ Fine walk (length (now input)) ⌝ }
+    ensures { λ r. ⌜ r ≡ ready walk (now (input .entry)) ⌝ }
+{
+    let start = walk.start;
+    let end = walk.end;
+    wire::either(walk.over, whole(&input[start..end]))
+}
+
+// One turn: a write, more input, the end, or an offer.
 fn turn(
     settings: Settings,
     walk: Walk,
@@ -224,10 +264,11 @@ fn turn(
     ensures { λ r. ⌜ Turned settings walk (now (input .entry)) (now (output .entry)) (now (unit .entry))
         r (now (input .exit)) (now (output .exit)) (now (unit .exit)) ⌝ }
 {
-    if full(walk, output.len()) {
+    let ready = ready(walk, input);
+    if due(walk, ready, output.len()) {
         return flush(walk, output);
     }
-    if !ready(walk) {
+    if !ready {
         return refill(walk, input);
     }
     if walk.start == walk.end {
@@ -240,7 +281,7 @@ fn turn(
 fn fresh() -> Walk
     ensures { λ r. ⌜ ((o recording : List ℕ) → owed listingSettings r o (replicate 65535 0) recording ≡ listing recording) ⌝ }
     ensures { λ r. ⌜ (Fine r 0) × (Room r 0) ⌝ }
-    ensures { λ r. ⌜ (r .over ≡ false) × (r .done ≡ false) × (r .failed ≡ false) ⌝ }
+    ensures { λ r. ⌜ Fresh r ⌝ }
 {
     Walk {
         start: 0,
@@ -249,13 +290,14 @@ fn fresh() -> Walk
         out: 0,
         over: false,
         done: false,
+        unreadable: false,
         failed: false,
         state: State::Idle,
     }
 }
 
 // Turn after turn, until all is offered or a write failed. A proved loop has to end, and nothing says that the input does: the
-// turns count down from a number that no run uses up.
+// turns count down from a number that no listing uses up.
 fn walk_on(
     settings: Settings,
     start: Walk,
@@ -286,9 +328,9 @@ fn walk_on(
 }
 
 // The whole listing: the turns, and what their last lines leave in the output's buffer.
-fn run(input: &mut [u8], output: &mut [u8], unit: &mut [u8]) -> Walk
+fn list(input: &mut [u8], output: &mut [u8], unit: &mut [u8]) -> Walk
     requires { ⌜ now unit ≡ replicate 65535 0 ⌝ }
-    ensures { λ r. ⌜ Ran (now (input .entry)) (now (output .entry)) (now (unit .entry))
+    ensures { λ r. ⌜ Listed (now (input .entry)) (now (output .entry)) (now (unit .entry))
         r (now (input .exit)) (now (output .exit)) (now (unit .exit)) ⌝ }
 {
     let start = fresh();
@@ -296,9 +338,24 @@ fn run(input: &mut [u8], output: &mut [u8], unit: &mut [u8]) -> Walk
     flush(end, output)
 }
 
+// What has failed: the input, where both have, since nothing is read after a write that failed.
+fn failure(walk: Walk) -> Failure
+    ensures { λ r. ⌜ r ≡ failureOf walk ⌝ }
+{
+    if walk.unreadable {
+        return Failure::Reading;
+    }
+    if walk.failed {
+        return Failure::Writing;
+    }
+    Failure::Nothing
+}
+
+// The input's buffer is large, since what is done is written before each read.
 fn main() {
-    let mut input = io::large_buffer();
+    let mut input = [0; 262144];
     let mut output = io::large_buffer();
     let mut unit = [0; 65535];
-    run(&mut input, &mut output, &mut unit);
+    let end = list(&mut input, &mut output, &mut unit);
+    stream::say(failure(end));
 }

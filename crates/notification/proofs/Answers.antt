@@ -14,7 +14,7 @@ use Rattle.wire.specs.Choice.{pick, both, either}
 use Rattle.wire.proofs.Choice.{never}
 use Rattle.rules.specs.declared.Address.{Address}
 use Rattle.notification_rules.specs.declared.Finding.{Finding}
-use Rattle.notification_rules.specs.declared.Finding.the-variants.{Found, Nobody, Refused}
+use Rattle.notification_rules.specs.declared.Finding.the-variants.{Nobody, Refused}
 use Rattle.wire.specs.Part.{Part, part, Is}
 use Rattle.notification_rules.specs.Cut.{cutOf, stop, more, isNil, odd, fromOffset}
 use Rattle.rules.specs.Section.{checked}

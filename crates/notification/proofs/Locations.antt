@@ -11,7 +11,7 @@ use lib.Dec.{eqb}
 use borrow.Author.Tests.{eq-eqb, ne-eqb}
 use Rattle.wire.specs.Choice.{pick}
 use Rattle.wire.specs.Bytes.{byteAt}
-use Rattle.wire.specs.Part.{Part, part}
+use Rattle.wire.specs.Part.{part}
 use Rattle.wire.proofs.Choice.{never}
 use Rattle.notification_rules.specs.declared.Finding.the-variants.{Found}
 use Rattle.notification_rules.specs.Cut.{fromOffset}
@@ -20,7 +20,6 @@ use Rattle.notification_rules.specs.Target.{streamLocation, Location, nowhere, 
 use Rattle.notification_rules.specs.Finding.{found, known}
 use Rattle.notification_rules.proofs.Items.{descriptor-two, located-stop, located-more}
 use Rattle.notification_rules.proofs.Located.{nine-in}
-use Rattle.notification.specs.declared.location.Choice.{Choice}
 use Rattle.notification.specs.declared.location.Choice.the-variants.{Own, Platform, Neither}
 use Rattle.notification.specs.Readers.{front, Reaches, choose, choiceOf, told, Inside}
 

@@ -7,9 +7,7 @@ use mathlib.Core.Bool.{Bool, true, false, not}
 use mathlib.Core.List.{List, [], _∷_}
 use lib.ListN.{length, take, drop, length-drop}
 use lib.Seq.{drop-drop, length-take-le}
-use lib.Dec.{eqb}
-use borrow.Author.Tests.{lt-ltb, le-ltb, ne-eqb, not-false}
-use denote.Ref.{RefT, now}
+use borrow.Author.Tests.{lt-ltb, le-ltb, not-false}
 use Rattle.wire.specs.Bytes.{byteAt}
 use Rattle.wire.specs.Choice.{pick, both, either}
 use Rattle.wire.proofs.Choice.{both-right, never}
@@ -17,7 +15,7 @@ use Rattle.rules.specs.declared.Address.{Address}
 use Rattle.wire.specs.Part.{part}
 use Rattle.notification_rules.specs.Cut.{Cut, cutOf, stop, more, isNil, any, odd, fromOffset}
 use Rattle.notification_rules.specs.Loop.{loopSize, descriptorSize, content, Pair, pairsOf, descriptorsOf, descriptorItems}
-use Rattle.notification_rules.specs.Target.{Location, nowhere, somewhere, located, isLocation, isCover, coverOf, covers, hit, entrySize, entryBytes, firstPair}
+use Rattle.notification_rules.specs.Target.{located, isLocation, isCover, coverOf, covers, hit, entrySize, entryBytes, firstPair}
 use Rattle.wire.proofs.Lists.{from}
 use Rattle.notification_rules.proofs.Cuts.{nil-true, nil-false, nil-length}
 use Rattle.notification_rules.proofs.Items.{loop-two, loops-stop, loops-more, stops, goes-on, descriptors-stop, descriptors-more, covered-any}

@@ -4,14 +4,14 @@ use native.Mathlib.Decide.{ℕ-discrete}
 use native.Mathlib.Omega.{arith}
 use mathlib.Core.Path.{_≡_, refl, ap, _∙_}
 use mathlib.Core.Logic.{_≢_}
-use mathlib.Core.List.{List, [], _∷_, append-assoc, flatten}
-use mathlib.Core.Bool.{Bool, true, false, not}
+use mathlib.Core.List.{List, append-assoc, flatten}
+use mathlib.Core.Bool.{Bool, true, false}
 use lib.ListN.{length}
 use lib.Seq.{take-all, take-length}
 use lib.Dec.{eqb, leb}
 use borrow.Author.Tests.{eq-eqb, eqb-false, eqb-true, ne-eqb}
 use Rattle.wire.specs.Bytes.{byteAt}
-use Rattle.wire.specs.Choice.{both, firstOf, Line, line, pick, without}
+use Rattle.wire.specs.Choice.{both, firstOf, Line, pick, without}
 use Rattle.wire.proofs.Choice.{firstOf-without}
 use Rattle.rules.specs.declared.Answer.{Answer}
 use Rattle.rules.specs.declared.Answer.the-variants.{Delivered, PassedBy, Refused, Stored}
@@ -23,7 +23,7 @@ use Rattle.rules.specs.Check.{checkLines, sharedLines, formLines, orderL
 use Rattle.rules.specs.Meaning.{filledBefore}
 use Rattle.rules.specs.Section.{lastSectionNumber, llcSnapFlag, payload, sectionNumber}
 use Rattle.rules.specs.Send.{sendingLength, sendingNumber, sendLines, SendOutcome, sections, sentOf, written}
-use Rattle.rules.specs.Step.{ownLines, continues, finish, From, goodSettings, goodState, keep, keyOf, laid, lay, lengthOf, Nowhere, numberOf, onward, ours, Outcome, outcome, fillFrom, refuse, refuseFirst, room, setupLines, stepOf}
+use Rattle.rules.specs.Step.{ownLines, continues, finish, From, keep, keyOf, laid, lay, lengthOf, Nowhere, numberOf, onward, ours, Outcome, outcome, fillFrom, refuse, refuseFirst, room, setupLines, stepOf}
 use Rattle.rules.proofs.Meaning.{filled-open, filled-zero}
 use Rattle.rules.proofs.Sections.{sections-sent}
 use Rattle.rules.proofs.Send.{accepted, sent-is, unsent-is}

@@ -9,7 +9,7 @@ use lib.ListN.{length, take}
 use lib.Dec.{eqb, leb, ltb}
 use borrow.Author.Tests.{eqb-false, eqb-true, leb-false, leb-true, lt-leb, ltb-false, not-false, not-true}
 use Rattle.wire.specs.Bytes.{bit, bits, byteAt, numberAt}
-use Rattle.wire.specs.Choice.{pick, both, Line, line, first, firstOf, without}
+use Rattle.wire.specs.Choice.{pick, both, Line, first, firstOf, without}
 use Rattle.wire.specs.Meaning.{Row, _means_}
 use Rattle.wire.proofs.Choice.{both-true, never, not-first}
 use Rattle.wire.proofs.Meaning.{Gives, gives-last, gives-row, or-else, or-zero, orElse, Tells, tells-both, tells-either, tells-eq, tells-le, tells-lt, tells-not, tells-outside}
@@ -23,7 +23,7 @@ use Rattle.rules.specs.Check.{addressScrambled, check, checkLines, datag
 use Rattle.rules.specs.Crc.{crc32}
 use Rattle.rules.specs.Meaning.{CheckMeans, CutInto, filledBefore, GoesOn, GoodState, DefaultMeans, ReceiverMeans, SameAddress, sectionRows, SenderMeans, sharedRows}
 use Rattle.rules.specs.Section.{address, addressScramblingControl, crcField, currentNextIndicator, lastSectionNumber, llcSnapFlag, payload, payloadScramblingControl, privateIndicator, sectionLength, sectionNumber, sectionSyntaxIndicator, tableId}
-use Rattle.rules.specs.Step.{ownLines, continues, From, goodRun, goodSettings, goodState, keep, keyOf, lay, Nowhere, numberOf, onward, ours, Outcome, outcome, overLimit, payloadScrambled, fillFrom, refuse, refuseFirst, room, sameKey, setupLines, stepOf, finish}
+use Rattle.rules.specs.Step.{ownLines, continues, From, goodRun, goodState, keep, keyOf, lay, Nowhere, numberOf, onward, ours, Outcome, outcome, overLimit, payloadScrambled, fillFrom, refuse, refuseFirst, room, sameKey, setupLines, stepOf, finish}
 use Rattle.rules.proofs.Compared.{compares-last}
 use Rattle.rules.proofs.Good.{good-is}
 use Rattle.rules.specs.Send.{sectionCount, sections, sendingNumber, sendLines, SendOutcome, sentOf, written}

@@ -1,18 +1,18 @@
 -- After i turns the output begins with the first i sections, and what is left of the unit is what comes after the first i pieces.
 use Prim.Native.Nat.{ℕ, _+_, _*_, _-_, _≤_, _<_, min}
 use native.Mathlib.Decide.{decLe}
-use native.Mathlib.Nat.{le-refl, suc-mul, zero-mul}
+use native.Mathlib.Nat.{suc-mul, zero-mul}
 use native.Mathlib.Numerals.{add-one}
 use native.Mathlib.Omega.{arith}
 use mathlib.Core.Path.{_≡_, refl, ap, sym, _∙_}
 use mathlib.Core.Bool.{Bool}
 use mathlib.Core.List.{List, [], flatten}
 use lib.ListN.{length, take, drop, length-take, length-drop, drop-of-length-le}
-use lib.Seq.{drop-drop, drop-length, length-paste, paste-zero, take-all, take-length}
+use lib.Seq.{drop-drop, drop-length, paste-zero, take-all, take-length}
 use Rattle.rules.specs.declared.Settings.{Settings}
 use Rattle.rules.specs.Section.{sectionOf}
 use Rattle.rules.specs.Send.{piece, sectionAt, sectionCount, sections, sectionsTo}
-use Rattle.rules.proofs.Send.{Accepted, bytes-more, bytes-to, section-size, sections-bytes}
+use Rattle.rules.proofs.Send.{Accepted, bytes-more, bytes-to, sections-bytes}
 use Rattle.wire.specs.Puts.{Puts}
 use Rattle.wire.proofs.Puts.{puts-length, puts-then}
 

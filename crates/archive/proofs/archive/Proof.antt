@@ -2,7 +2,7 @@
 use native.Mathlib.Omega.{arith}
 use mathlib.Core.Path.{refl, sym, ap}
 use lib.Seq.{length-take-le}
-use Rattle.archive.specs.Archive.{countOf, Archived}
+use Rattle.stream.specs.Words.{countOf}
 use borrow.Author.Needs.{needs}
 use Rattle.archive.proofs.archive.Statement.{statement}
 use Rattle.archive.proofs.archive.Tie as tie

@@ -3,7 +3,7 @@ use Prim.Native.Nat.{_-_, _≤_}
 use native.Mathlib.Omega.{arith}
 use mathlib.Core.Path.{_≡_, ap}
 use Rattle.io.proofs.Counting.{counts}
-use Rattle.archive.specs.Archive.{countOf}
+use Rattle.stream.specs.Words.{countOf}
 use lib.ListN.{length}
 use borrow.Author.Needs.{needs}
 use Rattle.archive.proofs.read_input.Statement.{statement}

@@ -2,7 +2,8 @@
 use native.Mathlib.Omega.{arith}
 use mathlib.Core.Path.{ap, _∙_}
 use lib.ListN.{length}
-use Rattle.listing.proofs.Text.{put-length, put-last, put-more, decimal-last, decimal-longer}
+use Rattle.listing.proofs.Text.{put-last, put-more, decimal-last, decimal-longer}
+use Rattle.wire.proofs.Puts.{puts-length}
 use Prim.Native.Nat.{ℕ, _<_}
 use borrow.Fn.Kinds.{In}
 use borrow.Fn.PlainCycle.{Measures, is, falls, and}
@@ -56,7 +57,7 @@ put-decimal-same-length : (t : ℕ) → put-decimal-lts.Need-same-length (
   put-decimal-below t,
   put-decimal.Post,
 ) (put-decimal-at t) put-decimal.Post
-put-decimal-same-length t c = put-length (c .before .before .put-byte .ensures)
+put-decimal-same-length t c = puts-length (c .before .before .put-byte .ensures)
 
 put-decimal-returns : (t : ℕ) → put-decimal-lts.Need-returns (
   digit-reads.Asked,
@@ -107,7 +108,7 @@ put-decimal-put-byte-requires-2 t c κs =
     let left = rest .before .before in
     let start = left .before .before in
     let p = rest .put-decimal .ensures in
-    omega (arith, start .pre .1, p .end, put-length p, decimal-longer _ (start .fits .n .fits) (left .if1 .left))
+    omega (arith, start .pre .1, p .end, puts-length p, decimal-longer _ (start .fits .n .fits) (left .if1 .left))
 
 put-decimal-same-length-2 : (t : ℕ) → put-decimal-lts.Need-same-length-2 (
   digit-reads.Asked,
@@ -119,7 +120,7 @@ put-decimal-same-length-2 : (t : ℕ) → put-decimal-lts.Need-same-length-2 (
 ) (put-decimal-at t) put-decimal.Post
 put-decimal-same-length-2 t c =
     let byte = c .before .before in
-    put-length (byte .put-byte2 .ensures) ∙ put-length (byte .before .before .before .before .before .put-decimal .ensures)
+    puts-length (byte .put-byte2 .ensures) ∙ puts-length (byte .before .before .before .before .before .put-decimal .ensures)
 
 put-decimal-returns-2 : (t : ℕ) → put-decimal-lts.Need-returns-2 (
   digit-reads.Asked,

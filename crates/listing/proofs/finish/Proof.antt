@@ -6,7 +6,7 @@ use Rattle.listing.proofs.finish.Tie as tie
 
 returns : tie.Need-returns
 returns c = (
-  record { start = refl; end = refl; over = refl; offset = refl; state = refl },
+  record { start = refl; end = refl; over = refl; unreadable = refl; offset = refl; state = refl },
   ((refl, refl, refl), λ s b o u rest l. owed-end s _ o u (c .pre .0) (c .pre .1) l),
 )
 

@@ -8,7 +8,7 @@ use Rattle.listing.proofs.fresh.Tie as tie
 returns : tie.Need-returns
 returns c = (
   λ o recording. owed-fresh _ o recording refl refl refl,
-  ((record { order = omega arith; within = omega arith }, omega arith), (refl, refl, refl)),
+  ((record { order = omega arith; within = omega arith }, omega arith), (refl, refl, refl, refl)),
 )
 
 pub fresh-spec : {M : Type 1} → statement M

@@ -1,6 +1,7 @@
 -- Three fields of up to 21 bytes stand behind each other.
 use native.Mathlib.Omega.{arith}
-use Rattle.listing.proofs.Text.{put-length, put-line, field-end}
+use Rattle.listing.proofs.Text.{put-line, field-end}
+use Rattle.wire.proofs.Puts.{puts-length}
 use borrow.Author.Needs.{needs}
 use Rattle.listing.proofs.put_line.Statement.{statement}
 use Rattle.listing.proofs.put_line.Tie as tie
@@ -21,7 +22,7 @@ put-field-requires-2 : tie.Need-put-field-requires-2
 put-field-requires-2 c κs =
     let first = c .before .before .before in
     let p = first .put-field .ensures in
-    omega (arith, first .before .before .before .before .before .pre, field-end _ _ p, put-length p)
+    omega (arith, first .before .before .before .before .before .pre, field-end _ _ p, puts-length p)
 
 put-field-requires-3 : tie.Need-put-field-requires-3
 put-field-requires-3 c κs =
@@ -29,7 +30,7 @@ put-field-requires-3 c κs =
     let first = second .before .before .before .before in
     let p = first .put-field .ensures in
     let q = second .put-field2 .ensures in
-    omega (arith, first .before .before .before .before .before .pre, field-end _ _ p, put-length p, field-end _ _ q, put-length q)
+    omega (arith, first .before .before .before .before .before .pre, field-end _ _ p, puts-length p, field-end _ _ q, puts-length q)
 
 same-length : tie.Need-same-length
 same-length c = search needs

@@ -1,11 +1,11 @@
 -- Each turn leaves the walk within its buffers and is one more of those that have been made.
-use Prim.Native.Nat.{_+_, _-_, _≤_}
+use Prim.Native.Nat.{_+_, _-_}
 use native.Mathlib.Omega.{arith}
 use mathlib.Core.Logic.{inl, inr}
 use mathlib.Core.Path.{_≡_, refl, _∙_}
 use lib.ListN.{length}
 use Rattle.listing.specs.Walk.{Fine, Room}
-use Rattle.listing.specs.Run.{Walked}
+use Rattle.listing.specs.Turns.{Walked}
 use Rattle.listing.proofs.Turns.{walked-none, walked-more}
 use Rattle.listing.proofs.walk_on.Statement.{statement}
 use Rattle.listing.proofs.walk_on.Tie as tie

@@ -1,7 +1,7 @@
 -- A section that is not refused has its platform loop and whole pairs after it, and the search stops at the pair that answers.
 use Rattle.notification.proofs.Answers.{below, looped, general-is, finding-refused, finding-nobody, answers-at}
-use Rattle.notification.proofs.Pairs.{first-whole, second-whole}
-use Rattle.notification.specs.Readers.{StopsAt, pairsOffset}
+use Rattle.notification.proofs.Pairs.{first-whole}
+use Rattle.notification.specs.Readers.{pairsOffset}
 use Rattle.notification_rules.specs.Loop.{loopSize}
 use Rattle.wire.proofs.Choice.{was}
 use denote.Ref.{now}

@@ -1,8 +1,6 @@
 -- The payload is stored; the test of the two numbers is the definition's.
-use Prim.Native.Nat.{_+_}
-use lib.ListN.{length}
 use native.Mathlib.Omega.{arith}
-use mathlib.Core.Path.{_≡_, sym, ap, _∙_}
+use mathlib.Core.Path.{sym, _∙_}
 use borrow.Author.Tests.{eq-eqb, ne-eqb}
 use denote.Ref.{now}
 use Rattle.wire.specs.Puts.{Puts}

@@ -1,6 +1,5 @@
 -- The outcome is the one that was decided.
 use denote.Ref.{now}
-use Rattle.sender.specs.Plan.{Planned}
 use Rattle.sender.proofs.Sent.{refused, sent}
 use borrow.Author.Needs.{needs}
 use Rattle.sender.proofs.send.Statement.{statement}

@@ -5,7 +5,7 @@ use mathlib.Core.Bool.{false}
 use lib.Seq.{length-take-le}
 use denote.Ref.{now}
 use Rattle.wire.proofs.Choice.{was}
-use Rattle.rules.proofs.Send.{given-fits}
+use Rattle.rules.proofs.Send.{sent-all-fits}
 use borrow.Author.Needs.{needs}
 use Rattle.vectors.proofs.send_line.Statement.{statement}
 use Rattle.vectors.proofs.send_line.Tie as tie
@@ -46,7 +46,7 @@ slice-reshare-prefix-offer-count c =
     let at = total .before .before .before .before in
     let a = at .before .before .before .before .before .args in
     let sent = was (at .send .ensures .sending) (total .total .given .1) in
-    omega (arith, given-fits _ false (a .size) (now (a .unit)) (now (a .out)) _ sent)
+    omega (arith, sent-all-fits _ false (a .size) (now (a .unit)) (now (a .out)) _ sent)
 
 slice-aggregate-offer-count : tie.Need-slice-aggregate-offer-count
 slice-aggregate-offer-count c = sym (length-take-le _ _ (slice-reshare-prefix-offer-count (c .before)))

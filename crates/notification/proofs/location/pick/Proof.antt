@@ -1,7 +1,6 @@
 -- The choice says which loop the nine bytes are cut from, and where.
-use Rattle.notification.specs.Readers.{Picked}
 use Rattle.wire.proofs.Choice.{was}
-use mathlib.Core.Path.{refl, sym}
+use mathlib.Core.Path.{refl}
 use borrow.Author.Needs.{needs}
 use Rattle.notification.proofs.location.pick.Statement.{statement}
 use Rattle.notification.proofs.location.pick.Tie as tie

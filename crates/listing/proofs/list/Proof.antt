@@ -1,9 +1,9 @@
 -- A fresh walk owes the listing; the turns and the last write give all of it that is offered.
 use native.Mathlib.Omega.{arith}
-use Rattle.listing.proofs.Turns.{ran}
+use Rattle.listing.proofs.Turns.{listed}
 use borrow.Author.Needs.{needs}
-use Rattle.listing.proofs.run.Statement.{statement}
-use Rattle.listing.proofs.run.Tie as tie
+use Rattle.listing.proofs.list.Statement.{statement}
+use Rattle.listing.proofs.list.Tie as tie
 
 fresh-requires : tie.Need-fresh-requires
 fresh-requires c κs = search needs
@@ -33,10 +33,10 @@ returns c =
     let w = c .before .before .before .before .before .before .before .before in
     let s = w .before .before .before .before in
     let f = s .before in
-    ran (f .before .before .before .before .pre) (f .fresh .ensures .1 .1) (f .fresh .ensures .0) (rw (s .listing-settings .ensures) at (w .walk-on .ensures .1)) (c .flush .ensures)
+    listed (f .before .before .before .before .pre) (f .fresh .ensures .1 .1) (f .fresh .ensures .0) (rw (s .listing-settings .ensures) at (w .walk-on .ensures .1)) (c .flush .ensures)
 
-pub run-spec : {M : Type 1} → statement M
-run-spec =
+pub list-spec : {M : Type 1} → statement M
+list-spec =
     tie.close
     (tie.spec
     fresh-requires
