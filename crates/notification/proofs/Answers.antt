@@ -11,7 +11,7 @@ use lib.Seq.{drop-drop, take-take}
 use borrow.Author.Tests.{lt-ltb, le-ltb, ne-eqb}
 use denote.Ref.{RefT, now}
 use Rattle.wire.specs.Choice.{pick, both, either}
-use Rattle.wire.proofs.Choice.{never}
+use Rattle.wire.proofs.Choice.{both-true, never}
 use Rattle.rules.specs.declared.Address.{Address}
 use Rattle.notification_rules.specs.declared.Finding.{Finding}
 use Rattle.notification_rules.specs.declared.Finding.the-variants.{Nobody, Refused}
@@ -24,11 +24,11 @@ use Rattle.notification_rules.specs.Finding.{refusal, fits, known, found, chose
 use Rattle.notification_rules.proofs.Items.{loop-two, loops-stop}
 use Rattle.notification_rules.proofs.Parts.{every-one, offset-member}
 use Rattle.notification_rules.proofs.Sound.{sound}
-use Rattle.notification_rules.proofs.Found.{unrefused, first-is}
+use Rattle.notification_rules.proofs.Found.{unrefused, First, first-is}
 use Rattle.notification_rules.proofs.Located.{operational-one, split-one}
 use Rattle.notification.specs.declared.location.Choice.{Choice}
 use Rattle.notification.specs.declared.location.Choice.the-variants.{Own, Platform, Neither}
-use Rattle.notification.specs.Readers.{loopAt, choiceOf, told, Inside, Nine, Picked, Turns, pairsFrom, pairAt, answersBy, pairOrEnd, StopsAt, platformAt, pairsOffset, Looped, choiceAt, toldAt, Locates, Answers, Finds}
+use Rattle.notification.specs.Readers.{loopAt, choiceOf, told, Inside, Nine, Picked, Turns, pairsFrom, pairAt, answersBy, pairOrEnd, StopsAt, platformAt, pairsOffset, choiceAt, toldAt, Locates, Answers, Tells}
 use Rattle.notification.specs.declared.Sought.{Sought}
 use Rattle.notification.specs.declared.Sought.the-variants.{PairAt}
 use Rattle.notification.proofs.Fits.{drop-take}
@@ -55,21 +55,10 @@ unfolding findingOf pick
 finding-refused device s n e z = rw (← e, ne-eqb n 0 z)
 
 -- ---- the loops of a section that is not refused, with h what stands before its CRC_32
-both-parts : (a b c : Bool) → both a (both b c) ≡ true → (a ≡ true) × (b ≡ true)
-unfolding both
-both-parts true true c e = (refl, refl)
-both-parts true false c e = absurd (never e)
-both-parts false b c e = absurd (never e)
-
 fits-stop : (s : List ℕ) → fits (stop s) ≡ false
 unfolding fits odd both
 fits-stop [] = refl
 fits-stop (x ∷ s) = refl
-
-second-true : (t u : Bool) → both t u ≡ true → u ≡ true
-unfolding both
-second-true true u e = e
-second-true false u e = absurd (never e)
 
 -- with what the code has read as the platform loop
 pub general-is : (h x : List ℕ) → x ≡ content (loopAt h 12)
@@ -102,7 +91,7 @@ module _ (device : Address) (s h : List ℕ) (eh : h ≡ checked s) (z : refusal
   fill : fits (cutOf loopSize (drop 12 h)) ≡ true
   fill = ap fits (sym cut-is) ∙ sound s z .fill
 
-  platform-whole : 12 + loopSize (drop 12 h) ≤ length h
+  pub platform-whole : 12 + loopSize (drop 12 h) ≤ length h
   platform-whole = go (decLe (12 + loopSize (drop 12 h)) (length h))
     where
       go : Dec (12 + loopSize (drop 12 h) ≤ length h) → 12 + loopSize (drop 12 h) ≤ length h
@@ -114,19 +103,16 @@ module _ (device : Address) (s h : List ℕ) (eh : h ≡ checked s) (z : refusal
   platform-cut : cutOf loopSize (drop 12 h) ≡ more (loopAt h 12) (cutOf loopSize (drop (pairsOffset h) h))
   platform-cut = let w = platform-whole in cut-here h 12 (omega arith) w
 
-  pairs-turns : Turns h (pairsOffset h)
+  pub pairs-turns : Turns h (pairsOffset h)
   unfolding fits odd
   pairs-turns =
       let rest = cutOf loopSize (drop (pairsOffset h) h) in
-      let b = both-parts (isNil (rest .left)) (not (odd (rest .items))) _ (ap fits (sym platform-cut) ∙ fill) in
-      record { inside = platform-whole; full = b .0; even = not-yes (odd (rest .items)) (b .1) }
+      let b = both-true (isNil (rest .left)) _ (ap fits (sym platform-cut) ∙ fill) in
+      record { inside = platform-whole; full = b .0; even = not-yes (odd (rest .items)) (both-true (not (odd (rest .items))) _ (b .1) .0) }
     where
       not-yes : (b : Bool) → not b ≡ true → b ≡ false
       not-yes true e = absurd (never e)
       not-yes false e = refl
-
-  pub looped : Looped h
-  looped = record { platform = platform-whole; pairs = pairs-turns }
 
   loops-are : loopsOf s ≡ platformAt h ∷ fromOffset (pairsOffset h) (cutOf loopSize (drop (pairsOffset h) h) .items)
   unfolding loopsOf fromOffset
@@ -156,17 +142,17 @@ module _ (device : Address) (s h : List ℕ) (eh : h ≡ checked s) (z : refusal
       unfolding chosen
       finding-found = finding-is ∙ rw pair-is
 
+      first : First (answers device (platformAt h)) (pairsFrom h (pairsOffset h)) (pairAt h r)
+      first = first-is (answers device (platformAt h)) (pairsFrom h (pairsOffset h)) (pairAt h r) (sym pair-same ∙ pair-is)
+
       has-location : isLocation (locationOf (platformAt h) (pairAt h r)) ≡ true
       unfolding answers
-      has-location =
-          let f = first-is (answers device (platformAt h)) (pairsFrom h (pairsOffset h)) (pairAt h r) (sym pair-same ∙ pair-is) in
-          second-true _ _ (f .passes)
+      has-location = both-true _ _ (first .passes) .1
 
       operational-is : List·Memᴰ (pairAt h r .operational) (loopsOf s)
       unfolding pairsFrom
       operational-is =
-          let f = first-is (answers device (platformAt h)) (pairsFrom h (pairsOffset h)) (pairAt h r) (sym pair-same ∙ pair-is) in
-          rw loops-are (List·Memᴰ·tail (operational-one (fromOffset (pairsOffset h) (cutOf loopSize (drop (pairsOffset h) h) .items)) (pairAt h r) (rw (f .split) (split-one (f .earlier) (f .later) (pairAt h r)))))
+          rw loops-are (List·Memᴰ·tail (operational-one (fromOffset (pairsOffset h) (cutOf loopSize (drop (pairsOffset h) h) .items)) (pairAt h r) (rw (first .split) (split-one (first .earlier) (first .later) (pairAt h r)))))
 
       platform-is : List·Memᴰ (platformAt h) (loopsOf s)
       platform-is = rw loops-are (List·Memᴰ·head refl)
@@ -192,7 +178,7 @@ module _ (device : Address) (s h : List ℕ) (eh : h ≡ checked s) (z : refusal
           }
 
 -- ---- the pair that answers, with what the code has read: h before the CRC_32, x of the operational loop at o, and y of the platform loop
-pub pair-answers : (device : Address) (s h : List ℕ) (o : ℕ) (f : Sought) → Finds device s f → f ≡ PairAt o → h ≡ checked s
+pub pair-answers : (device : Address) (s h : List ℕ) (o : ℕ) (f : Sought) → Tells device s f → f ≡ PairAt o → h ≡ checked s
     → Answers device s h o
 pair-answers device s h o f w e eh = rw eh (rw e at w)
 

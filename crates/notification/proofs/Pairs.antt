@@ -1,4 +1,4 @@
--- Where whole pairs stand up to the end, the first of them is two loops, and whole pairs stand behind it.
+-- Where whole pairs stand up to the end, the first of them is two loops, and whole pairs stand after it.
 use Prim.Native.Nat.{ℕ, _+_, _-_, _≤_, _<_}
 use native.Mathlib.Omega.{arith}
 use native.Mathlib.Decide.{decLe}

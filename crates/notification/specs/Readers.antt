@@ -154,11 +154,6 @@ platformAt h = part platformOffset (loopAt h platformOffset)
 abbrev pub pairsOffset : List ℕ → ℕ
 pairsOffset h = platformOffset + loopSize (drop platformOffset h)
 
--- a platform loop, and whole pairs up to the end
-pub record Looped (h : List ℕ) : Type 0 where
-  pub platform : pairsOffset h ≤ length h
-  pub pairs : Turns h (pairsOffset h)
-
 -- the choice of the pair whose operational loop stands at o
 abbrev pub choiceAt : List ℕ → ℕ → Choice
 choiceAt h o = choiceOf (content (loopAt h o)) (content (loopAt h platformOffset))
@@ -179,7 +174,7 @@ pub record Answers (device : Address) (s h : List ℕ) (o : ℕ) : Type 0 where
   pub locates : Locates h o
   pub told : findingOf device s ≡ toldAt h o
 
-abbrev pub Finds : Address → List ℕ → Sought → Type 0
-Finds device s (Refusal n) = findingOf device s ≡ Refused n
-Finds device s NoPair = findingOf device s ≡ Nobody
-Finds device s (PairAt o) = Answers device s (checked s) o
+abbrev pub Tells : Address → List ℕ → Sought → Type 0
+Tells device s (Refusal n) = findingOf device s ≡ Refused n
+Tells device s NoPair = findingOf device s ≡ Nobody
+Tells device s (PairAt o) = Answers device s (checked s) o

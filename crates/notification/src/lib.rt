@@ -29,7 +29,7 @@ ghost use Rattle.wire.specs.Choice.{firstOf};
 ghost use Rattle.notification_rules.specs.declared.Finding.the-variants.{Found};
 ghost use Rattle.notification_rules.specs.Loop.{loopSize};
 ghost use Rattle.notification_rules.specs.Finding.{notificationForm, otherAction, wrongHash, platformLines, loopLines, refusal, findingOf, Answered};
-ghost use Rattle.notification.specs.Readers.{Holds, Turns, StopsAt, Finds, Locates, toldAt};
+ghost use Rattle.notification.specs.Readers.{Holds, Turns, StopsAt, Tells, Locates, toldAt};
 
 fn notification_form() -> Form
     ensures { λ r. ⌜ r ≡ notificationForm ⌝ }
@@ -138,9 +138,9 @@ enum Sought {
     PairAt(usize),
 }
 
-// The one search.
+// The one search: the refusals first, then the pairs in their order.
 fn find(device: Address, s: &[u8]) -> Sought
-    ensures { λ r. ⌜ Finds device (now (s .entry)) r ⌝ }
+    ensures { λ r. ⌜ Tells device (now (s .entry)) r ⌝ }
 {
     let number = refusal(s);
     if number != 0 {

@@ -26,6 +26,7 @@ fn from_location<'a>(s: &'a [u8]) -> &'a [u8]
     from_location(&s[size..])
 }
 
+// A loop has a 0x13.
 pub fn has_location(s: &[u8]) -> bool
     ensures { λ r. ⌜ Has (now (s .entry)) r ⌝ }
 {

@@ -7,8 +7,8 @@ ghost use Rattle.notification_rules.specs.Loop.{loopSize, descriptorSize};
 ghost use Rattle.notification_rules.specs.Target.{rightLength};
 ghost use Rattle.notification.specs.Readers.{worse, lengthFit, descriptorFit, loopFit, After};
 
-// How loops and descriptors fill bytes: exactly, with a known descriptor of another length (33), or not exactly (32). Each is worse than
-// the one before it.
+// How loops and descriptors fill bytes: exactly; with a known descriptor of another length (33); not exactly (32). Each is worse than the
+// one before it, and the worst that was met is handed on to the end.
 pub enum Fit {
     Exact,
     OtherLength,
@@ -45,7 +45,7 @@ fn right_length(tag: u8, n: u8) -> bool
     true
 }
 
-// How the bytes fit that were told, with one more descriptor: this tag, and n bytes.
+// `fit` after one more descriptor, which has this tag and n bytes.
 fn with_descriptor(fit: Fit, tag: u8, n: u8) -> Fit
     ensures { λ r. ⌜ r ≡ worse fit (lengthFit tag n) ⌝ }
 {
@@ -59,7 +59,7 @@ fn with_descriptor(fit: Fit, tag: u8, n: u8) -> Fit
     }
 }
 
-// Descriptors up to the end of a loop, whose bytes before fit as told.
+// `fit` after the descriptors up to the end of a loop.
 fn descriptor_loop(s: &[u8], fit: Fit) -> Fit
     ensures { λ r. ⌜ r ≡ worse fit (descriptorFit (now (s .entry))) ⌝ }
 {
@@ -74,7 +74,7 @@ fn descriptor_loop(s: &[u8], fit: Fit) -> Fit
     descriptor_loop(&s[size..], next)
 }
 
-// A target loop and what follows it, up to the end.
+// `fit` after a target loop and what follows it, up to the end.
 fn target_loop(s: &[u8], fit: Fit) -> Fit
     ensures { λ r. ⌜ r ≡ worse fit (loopFit false (now (s .entry))) ⌝ }
 {
@@ -88,7 +88,7 @@ fn target_loop(s: &[u8], fit: Fit) -> Fit
     operational_loop(&s[size..], descriptor_loop(&s[2..size], fit))
 }
 
-// An operational loop, which has to be there, and what follows it; the platform loop is read in the same way.
+// `fit` after an operational loop, which has to be there, and what follows it; the platform loop is read in the same way.
 pub fn operational_loop(s: &[u8], fit: Fit) -> Fit
     ensures { λ r. ⌜ r ≡ worse fit (loopFit true (now (s .entry))) ⌝ }
 {

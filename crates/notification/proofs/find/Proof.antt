@@ -1,5 +1,5 @@
 -- A section that is not refused has its platform loop and whole pairs after it, and the search stops at the pair that answers.
-use Rattle.notification.proofs.Answers.{below, looped, general-is, finding-refused, finding-nobody, answers-at}
+use Rattle.notification.proofs.Answers.{below, platform-whole, pairs-turns, general-is, finding-refused, finding-nobody, answers-at}
 use Rattle.notification.proofs.Pairs.{first-whole}
 use Rattle.notification.specs.Readers.{pairsOffset}
 use Rattle.notification_rules.specs.Loop.{loopSize}
@@ -27,7 +27,7 @@ loop-at-requires : tie.Need-loop-at-requires
 loop-at-requires c κs = let A = c .before .before .before .before .args in
     let H = c .checked in
     let z = was (c .before .before .refusal .ensures) (c .before .if1 .left) in
-    looped (A .device) (now (A .s)) (now (H .result)) (H .ensures .bytes) z .platform
+    platform-whole (A .device) (now (A .s)) (now (H .result)) (H .ensures .bytes) z
 
 add-search : tie.Need-add-search
 add-search c = search needs
@@ -41,7 +41,7 @@ search-requires c κs = let A = c .before .before .before .before .before .befor
     let z = was (c .before .before .before .before .refusal .ensures) (c .before .before .before .if1 .left) in
     let L = c .before .loop-at in
     let n : 14 + length (now (L .result)) ≡ pairsOffset (now (H .result)) = omega (arith, L .ensures .size) in
-    rw n (looped (A .device) (now (A .s)) (now (H .result)) (H .ensures .bytes) z .pairs)
+    rw n (pairs-turns (A .device) (now (A .s)) (now (H .result)) (H .ensures .bytes) z)
 
 returns-2 : tie.Need-returns-2
 returns-2 c = let A = c .before .before .before .before .before .before .before .before .args in

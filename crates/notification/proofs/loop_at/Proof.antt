@@ -7,7 +7,6 @@ use denote.Ref.{now}
 use lib.ListN.{drop}
 use mathlib.Core.Path.{_≡_, refl, _∙_}
 use native.Mathlib.Omega.{arith}
-use Prim.Native.Nat.{_-_}
 use borrow.Author.Needs.{needs}
 use Rattle.notification.proofs.loop_at.Statement.{statement}
 use Rattle.notification.proofs.loop_at.Tie as tie
