@@ -1,4 +1,4 @@
-/* crc_32 LIBRARY FILE..: CRC_32 of each file by libisal, libucsi or libdvbpsi: a line a file, eight hexadecimal digits and the name. */
+/* crc_32 LIBRARY FILE..: CRC_32 of each file by libisal, libucsi or libdvbpsi: one line per file, eight hexadecimal digits and the name. */
 #include <stdbool.h>
 #include <stdint.h>
 #include <stdio.h>
@@ -15,7 +15,7 @@ static uint32_t isal(uint8_t *bytes, size_t length) { return ~crc32_ieee(0, byte
 
 static uint32_t ucsi(uint8_t *bytes, size_t length) { return crc32(CRC32_INIT, bytes, length); }
 
-/* It writes CRC_32 behind the bytes, too. */
+/* It writes CRC_32 after the bytes, too. */
 static uint32_t dvbpsi(uint8_t *bytes, size_t length)
 {
     dvbpsi_psi_section_t section = { .b_syntax_indicator = true, .p_data = bytes, .p_payload_end = bytes + length };

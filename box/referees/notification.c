@@ -31,9 +31,9 @@ static struct loop platform, target, operational;
 
 static void collect_pair(struct dvb_int_target *pair)
 {
-    struct dvb_int_operational_loop *behind = dvb_int_target_operational_loop(pair);
+    struct dvb_int_operational_loop *after = dvb_int_target_operational_loop(pair);
     COLLECT(target, pair, target_descriptors_length, dvb_int_target_target_descriptors_for_each);
-    COLLECT(operational, behind, operational_descriptors_length, dvb_int_operational_loop_operational_descriptors_for_each);
+    COLLECT(operational, after, operational_descriptors_length, dvb_int_operational_loop_operational_descriptors_for_each);
 }
 
 /* libucsi takes some sections in which a loop runs into the CRC_32; 01 takes none (docs/DECISIONS.md). */
@@ -208,7 +208,7 @@ static size_t parse(const char *digits, uint8_t *bytes)
 
 int main(void)
 {
-    static uint8_t bytes[5 * 4096]; /* with zeros behind the section: libucsi reads on where a loop runs over its end */
+    static uint8_t bytes[5 * 4096]; /* with zeros after the section: libucsi reads on where a loop runs over its end */
     uint8_t device[6];
     char *line = NULL;
     size_t room = 0;

@@ -57,7 +57,7 @@ pub fn agree() -> Result<(), String> {
 }
 
 pub fn print_times() {
-    println!("\nan INT section read by fossknut, ns and ns a byte");
+    println!("\nan INT section read by fossknut, ns, and ns per byte");
     print!("{:>5}", "bytes");
     for (name, _) in KINDS {
         print!("{name:>20}");

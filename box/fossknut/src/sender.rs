@@ -11,7 +11,7 @@ use crate::{Refusal, Settings};
 /// has 16 bytes beside its piece. `llc_snap` says that the unit begins with an LLC/SNAP header; it
 /// is not looked at here.
 ///
-/// The bytes of `output` behind the sections stay as they were.
+/// The bytes of `output` after the sections stay as they were.
 ///
 /// ```
 /// use fossknut::{Answer, Receiver, Settings};

@@ -53,7 +53,7 @@ pub fn input(random: &mut Random) -> Row {
     }
 }
 
-/// Mostly short; often there is hardly any room behind what is filled.
+/// Mostly short; often there is hardly any room after what is filled.
 fn any_buffer_length(random: &mut Random, filled: usize) -> usize {
     match random.below(64) {
         0 => random.below(66_001),

@@ -78,7 +78,7 @@ fn each_number_once() -> Vec<u8> {
     .concat()
 }
 
-/// The first and the last of three sections, and a whole unit behind them.
+/// The first and the last of three sections, and a whole unit after them.
 fn a_lost_section() -> Vec<u8> {
     let sections = [(0, 2, b"Foss"), (2, 2, b"frog"), (0, 0, b"knut")];
     sections

@@ -30,7 +30,7 @@ pub struct Answer {
 
 struct Descriptor<'a> {
     tag: u8,
-    /// Where its bytes stand in the section, behind tag and length.
+    /// Where its bytes stand in the section, after tag and length.
     offset: usize,
     bytes: &'a [u8],
 }
@@ -127,13 +127,13 @@ impl<'a> Body<'a> {
         let (platform, mut offset) = read_loop(before, HEADER)?;
         let mut pairs = Vec::new();
         while offset < before.len() {
-            let (target, behind_target) = read_loop(before, offset)?;
-            let (operational, behind) = read_loop(before, behind_target)?;
+            let (target, after_target) = read_loop(before, offset)?;
+            let (operational, after) = read_loop(before, after_target)?;
             pairs.push(Pair {
                 target,
                 operational,
             });
-            offset = behind;
+            offset = after;
         }
         Some(Self { platform, pairs })
     }

@@ -140,7 +140,7 @@ impl Receiver {
         }
     }
 
-    /// Where the payload belongs: at 0 for number 0, behind what is stored for the right
+    /// Where the payload belongs: at 0 for number 0, after what is stored for the right
     /// continuation.
     fn filled_before(&self, section: &Section) -> Option<usize> {
         if section.section_number() == 0 {

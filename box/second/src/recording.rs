@@ -1,4 +1,4 @@
-//! A recording: sections one behind the other (01, "Listing").
+//! A recording: sections one after the other (01, "Listing").
 
 /// The input that 01 gives under "Listing".
 pub const LISTING_OF_01: [u8; 21] = [

@@ -24,11 +24,11 @@ pub fn send(
     let mut rest = unit;
     let mut length = 0;
     for number in 0..=last {
-        let (piece, behind) = rest.split_at(piece_size.min(rest.len()));
+        let (piece, after) = rest.split_at(piece_size.min(rest.len()));
         let place = &mut output[length..][..SHORTEST + piece.len()];
         write_section(place, settings.address, llc_snap, [number, last], piece);
         length += place.len();
-        rest = behind;
+        rest = after;
     }
     Answer { number, length }
 }

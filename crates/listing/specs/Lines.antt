@@ -9,7 +9,7 @@ use Rattle.rules.specs.Recording.{listingSettings, offers}
 use Rattle.rules.specs.Step.{stepOf}
 use Rattle.listing.specs.Text.{line}
 
--- a line an offer, the offset counted in 64 bits
+-- one line per offer, the offset counted in 64 bits
 unfoldable pub linesOf : Settings → ℕ → State → List ℕ → List (List ℕ) → List ℕ
 linesOf c offset σ b [] = []
 linesOf c offset σ b (s ∷ more) =

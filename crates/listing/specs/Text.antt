@@ -15,7 +15,7 @@ decimalWithin (suc k) n = pick (ltb n 10) ((48 + n) ∷ []) (decimalWithin k (n 
 unfoldable pub decimal : ℕ → List ℕ
 decimal n = decimalWithin 20 n
 
--- a number and the byte behind it
+-- a number and the byte after it
 unfoldable pub field : ℕ → ℕ → List ℕ
 field n mark = decimal n ++ (mark ∷ [])
 

@@ -64,7 +64,7 @@ fn put_decimal(output: &mut [u8], at: usize, n: u64) -> usize
     put_byte(output, end, digit(n % 10))
 }
 
-// Puts a number and the byte behind it.
+// Puts a number and the byte after it.
 fn put_field(output: &mut [u8], at: usize, n: u64, mark: u8) -> usize
     requires { ⌜ at + 21 ≤ length (now output) ⌝ }
     ensures { λ r. ⌜ Puts (now (output .entry)) at (field n mark) r (now (output .exit)) ⌝ }

@@ -103,20 +103,20 @@ module _ (s : List ℕ) (h : Bytes s) (n : None s) where
   short : length s ≤ 65535
   short = ltb-false 65535 (length s) (either-false _ _ (n .no40) .1)
 
-  behind : privateOffset s ≤ dataOffset s
-  behind = ltb-false (dataOffset s) (privateOffset s) (either-false _ _ (n .no43) .0)
+  order : privateOffset s ≤ dataOffset s
+  order = ltb-false (dataOffset s) (privateOffset s) (either-false _ _ (n .no43) .0)
 
   extension-is : extensionField (takenValues s) ≡ take (flagged (ptsExtensionFlag s) 2) (drop 3 s)
   unfolding extensionField
   extension-is =
-      let l : 3 + flagged (ptsExtensionFlag s) 2 ≤ length s = omega (arith, behind, within s n) in
+      let l : 3 + flagged (ptsExtensionFlag s) 2 ≤ length s = omega (arith, order, within s n) in
       field-is (ptsExtensionFlag s) 2 3 9 (bits 15 9 (numberAt 2 s 3)) s h l (omega (arith, numberAt-lt 2 s 3 h))
 
   rate-is : rateField (takenValues s) ≡ take (flagged (outputDataRateFlag s) 4) (drop (rateOffset s) s)
   unfolding rateField
   rate-is =
       let x : ℕ = numberAt 4 s (rateOffset s) in
-      let l : rateOffset s + flagged (outputDataRateFlag s) 4 ≤ length s = omega (arith, behind, within s n) in
+      let l : rateOffset s + flagged (outputDataRateFlag s) 4 ≤ length s = omega (arith, order, within s n) in
       field-is (outputDataRateFlag s) 4 (rateOffset s) 28 (bits 31 28 x) s h l (omega (arith, numberAt-lt 4 s (rateOffset s) h))
 
   optional-is : optionalFields (takenValues s) ≡ take (pesDataPacketHeaderLength s) (drop 3 s)
@@ -124,7 +124,7 @@ module _ (s : List ℕ) (h : Bytes s) (n : None s) where
   optional-is =
       let a : ℕ = flagged (ptsExtensionFlag s) 2 in
       let b : ℕ = flagged (outputDataRateFlag s) 4 in
-      let k : a + (b + (dataOffset s - privateOffset s)) ≡ pesDataPacketHeaderLength s = omega (arith, behind) in
+      let k : a + (b + (dataOffset s - privateOffset s)) ≡ pesDataPacketHeaderLength s = omega (arith, order) in
       rw (extension-is, rate-is, slice-is (privateOffset s) (dataOffset s) s)
       (stretches s a b (dataOffset s - privateOffset s) ∙ ap (λ (m : ℕ). take m (drop 3 s)) k)
 

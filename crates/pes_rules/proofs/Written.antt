@@ -43,7 +43,7 @@ parts false true r l h k =
 parts false false r l h k =
     record { seven = omega arith; six = omega arith; between = omega arith; low = omega arith; fits = omega arith }
 
--- ---- a field of n bytes behind p: j high bits and k low bits
+-- ---- a field of n bytes after p: j high bits and k low bits
 length-field : (flag : Bool) (n x : ℕ) → length (cond flag (bytesOf n x) []) ≡ flagged flag n
 unfolding flagged pick
 length-field true n x = length-bytesOf n x
@@ -54,15 +54,15 @@ field-bytes true n x = bytesOf-bytes n x
 field-bytes false n x = λ i. lit< tt
 
 module _ (n j k high low : ℕ) (p q : List ℕ) (w : 2 ^ j * 2 ^ k ≡ 256 ^ n) where
-  abbrev behind : Bool → List ℕ
-  behind flag = p ++ (cond flag (bytesOf n (high * 2 ^ k + low)) [] ++ q)
+  abbrev joined : Bool → List ℕ
+  joined flag = p ++ (cond flag (bytesOf n (high * 2 ^ k + low)) [] ++ q)
 
   whole : high < 2 ^ j → low < 2 ^ k
       → numberAt n (p ++ (bytesOf n (high * 2 ^ k + low) ++ q)) (length p) ≡ high * 2 ^ k + low
   whole h l = numberAt-bytesOf n (high * 2 ^ k + low) p q ∙ mod-eq-of-lt (rw (← w) (digits-lt h l))
 
   low-read : (flag : Bool) → high < 2 ^ cond flag j 0 → low < 2 ^ cond flag k 0
-      → flagged flag (numberAt n (behind flag) (length p) % 2 ^ k) ≡ low
+      → flagged flag (numberAt n (joined flag) (length p) % 2 ^ k) ≡ low
   unfolding flagged pick
   low-read true h l = ap (λ (x : ℕ). x % 2 ^ k) (whole h l) ∙ digits-mod high l
   low-read false h l = sym (lt-one l)
@@ -130,24 +130,24 @@ module _ (v : Values) (k : Conforms v) where
       ∙ drop-at (front (optionalFields v)) (v .dataBytes) (dataOffset s) (sym offset-data)
 
   -- ---- flagged fields
-  abbrev behindExtension : List ℕ
-  behindExtension = rateField v ++ (v .privateBytes ++ v .dataBytes)
+  abbrev afterExtension : List ℕ
+  afterExtension = rateField v ++ (v .privateBytes ++ v .dataBytes)
 
-  abbrev behindRate : List ℕ
-  behindRate = v .privateBytes ++ v .dataBytes
+  abbrev afterRate : List ℕ
+  afterRate = v .privateBytes ++ v .dataBytes
 
   extension-low : ptsExtension s ≡ v .ptsExtension
   unfolding extensionField
   extension-low =
       rw (extended, body)
-      (low-read 2 7 9 (v .reserved7) (v .ptsExtension) (front []) behindExtension refl
+      (low-read 2 7 9 (v .reserved7) (v .ptsExtension) (front []) afterExtension refl
       (v .ptsExtensionFlag) (k .beforeExtension) (k .extension))
 
   rate-low : outputDataRate s ≡ v .outputDataRate
   unfolding rateField
   rate-low =
       rw (rated, offset-rate, body)
-      (low-read 4 4 28 (v .reserved4) (v .outputDataRate) (front (extensionField v)) behindRate refl
+      (low-read 4 4 28 (v .reserved4) (v .outputDataRate) (front (extensionField v)) afterRate refl
       (v .outputDataRateFlag) (k .beforeRate) (k .rate))
 
   -- ---- no line applies

@@ -35,11 +35,11 @@ pesDataPacketHeaderLength s = byteAt s 2 % 2 ^ 4
 unfoldable pub flagged : Bool → ℕ → ℕ
 flagged flag n = pick flag n 0
 
--- two bytes behind byte 2 where flagged, the low 9 bits
+-- two bytes after byte 2 where flagged, the low 9 bits
 abbrev pub ptsExtension : List ℕ → ℕ
 ptsExtension s = flagged (ptsExtensionFlag s) (numberAt 2 s 3 % 2 ^ 9)
 
--- where output_data_rate stands: behind PTS_extension
+-- where output_data_rate stands: after PTS_extension
 abbrev pub rateOffset : List ℕ → ℕ
 rateOffset s = 3 + flagged (ptsExtensionFlag s) 2
 
@@ -47,7 +47,7 @@ rateOffset s = 3 + flagged (ptsExtensionFlag s) 2
 abbrev pub outputDataRate : List ℕ → ℕ
 outputDataRate s = flagged (outputDataRateFlag s) (numberAt 4 s (rateOffset s) % 2 ^ 28)
 
--- where the private bytes begin: behind the flagged fields
+-- where the private bytes begin: after the flagged fields
 abbrev pub privateOffset : List ℕ → ℕ
 privateOffset s = rateOffset s + flagged (outputDataRateFlag s) 4
 
@@ -69,7 +69,7 @@ wrongFlags s =
     either (both (eqb (dataIdentifier s) 0x21) (not (ptsExtensionFlag s)))
     (both (eqb (dataIdentifier s) 0x22) (outputDataRateFlag s))
 
--- 43: "H below the flagged fields or 3 + H beyond the packet": the data would begin inside the fields, or behind the packet
+-- 43: "H below the flagged fields or 3 + H beyond the packet": the data would begin inside the fields, or after the packet
 abbrev pub wrongHeaderLength : List ℕ → Bool
 wrongHeaderLength s = either (ltb (dataOffset s) (privateOffset s)) (ltb (length s) (dataOffset s))
 

@@ -75,7 +75,7 @@ pub record Written (s : List ℕ) : Type 0 where
   pub is : packetOf values ≡ s
 
 -- ---- what is read: a reading, and the data as a part of the packet
--- "5 with both flags, the extension and rate values (0 where unflagged) and the data part", which goes from behind the optional fields to
+-- "5 with both flags, the extension and rate values (0 where unflagged) and the data part", which goes from after the optional fields to
 -- the end
 abbrev pub readingOf : Values → Reading
 readingOf v =

@@ -192,15 +192,15 @@ read-written (v ∷ vs) h =
     rw (read-back v (h [] vs v refl), read-written vs (λ front back w p. h (v ∷ front) back w (ap (λ (l : List Values). v ∷ l) p)))
 
 -- ---- rows of bytes
-of-behind : (r q : List Event) → OfBytes (r ++ q) → OfBytes q
+of-after : (r q : List Event) → OfBytes (r ++ q) → OfBytes q
 unfolding OfBytes
-of-behind [] q b = b
-of-behind (section s ∷ r) q b = of-behind r q (b .1)
-of-behind (gap ∷ r) q b = of-behind r q b
+of-after [] q b = b
+of-after (section s ∷ r) q b = of-after r q (b .1)
+of-after (gap ∷ r) q b = of-after r q b
 
 of-last : (r : List Event) (e : Event) → OfBytes (r ++ (e ∷ [])) → Given e
 unfolding OfBytes Given
-of-last r (section s) b = of-behind r (section s ∷ []) b .0
+of-last r (section s) b = of-after r (section s ∷ []) b .0
 of-last r gap b = tt
 
 of-pick : (t : Bool) (r q : List Event) → OfBytes r → OfBytes q → OfBytes (pick t r q)
@@ -280,7 +280,7 @@ module _ (c : Settings) (b : List ℕ) where
     λ w.
         let xs : List (List ℕ) = w .sections in
         let bytes : (i : ℕ) → i < length xs → Bytes (getD xs i []) =
-        of-sections xs (of-behind (w .there .front) (map section xs) (rw (w .there .split) at given)) in
+        of-sections xs (of-after (w .there .front) (map section xs) (rw (w .there .split) at given)) in
         record {
           sections = map read xs;
           run = run-read xs good bytes (w .run);

@@ -1,4 +1,4 @@
--- The tests behind an answer say whether the row ends in a run with the section, and whether that run is whole.
+-- The tests that lead to an answer say whether the row ends in a run with the section, and whether that run is whole.
 use Prim.Native.Nat.{ℕ, _+_, _≤_, _<_}
 use native.Mathlib.Omega.{arith}
 use mathlib.Core.Path.{_≡_, refl, ap, sym, _∙_}
@@ -63,7 +63,7 @@ module _ (c : Settings) (b : List ℕ) where
   pub started : Holds [] (fresh b)
   started = record { size = refl; track = λ κ xs e some partial. omega (arith, ends-size (e .there)) }
 
-  -- ---- the outcome that is due at the section s behind the row past, by what the row then ends in
+  -- ---- the outcome that is due at the section s after the row past, by what the row then ends in
   pub data Due (past : List Event) (now s : List ℕ) : Outcome → Type 0 where
     -- no run
     refused : {n : ℕ} → ((κ : Key) (xs : List (List ℕ)) → EndsIn c b (past ++ (section s ∷ [])) κ xs → 0 < length xs → ⊥)

@@ -39,7 +39,7 @@ take-sections xs zero = refl
 take-sections [] (suc i) = refl
 take-sections (s ∷ xs) (suc i) = ap (λ (l : List Event). section s ∷ l) (take-sections xs i)
 
--- what is held behind the last section is what its step leaves
+-- what is held after the last section is what its step leaves
 after-last : (c : Settings) (h : Held) (xs : List (List ℕ)) (i : ℕ) → i + 1 ≡ length xs
     → after c h (map section xs) ≡ next c (after c h (map section (take i xs))) (section (getD xs i []))
 unfolding after

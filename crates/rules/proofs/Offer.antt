@@ -81,7 +81,7 @@ within-enough (suc j) (suc k) (x ∷ r) h i =
     let e = within-enough j k (drop (offerLength s) s) (omega arith) (omega arith) in
     rw (within-more j s (omega arith), within-more k s (omega arith)) (ap (λ (o : List (List ℕ)). take (offerLength s) s ∷ o) e)
 
--- the first offer, and the offers of what is left behind it
+-- the first offer, and the offers of what is left after it
 pub offers-more : (r : List ℕ) → 0 < length r → offers r ≡ take (offerLength r) r ∷ offers (drop (offerLength r) r)
 unfolding offers
 offers-more [] h = absurd (omega arith)

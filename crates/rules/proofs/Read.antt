@@ -32,7 +32,7 @@ read s =
       reserved5 = bits 7 6 (byteAt s 5);
     }
 
--- ---- the CRC_32 behind what it is of
+-- ---- the CRC_32 after what it is of
 pub sealed-is : (s : List ℕ) → Bytes s → 4 ≤ length s → crcField s ≡ crc32 (take (length s - 4) s) → sealed (take (length s - 4) s) ≡ s
 unfolding sealed crcField
 sealed-is s b h e =
@@ -43,7 +43,7 @@ sealed-is s b h e =
     ∙ take-append-drop (length s - 4) s
 
 -- ---- a byte, by its bits
--- bits 7-6 are 10; x with y behind it gives section_length
+-- bits 7-6 are 10; x with y after it gives section_length
 lengthByte : (x y : ℕ) → x < 256 → y < 256 → x / 128 % 2 ≡ 1 → x / 64 % 2 ≡ 0 → 0x80 + 0x10 * (x / 16 % 4) + (x * 256 + y) % 4096 / 256 % 16 ≡ x
 lengthByte x y hx hy h7 h6 =
     let q7 : x / 128 ≡ 1 = omega arith in
@@ -97,13 +97,13 @@ module _ (s : List ℕ) (b : Bytes s) (p : check s ≡ 0) where
 
   -- ---- the section
   -- from byte 1 up to the CRC_32
-  behind : List ℕ
-  behind =
+  tail : List ℕ
+  tail =
       byteAt s 1 ∷ byteAt s 2 ∷ byteAt s 3 ∷ byteAt s 4 ∷ byteAt s 5 ∷ byteAt s 6 ∷ byteAt s 7 ∷ byteAt s 8 ∷ byteAt s 9 ∷ byteAt s 10
       ∷ byteAt s 11 ∷ payload s
 
-  front-is : byteAt s 0 ∷ behind ≡ take (length s - 4) s
-  unfolding behind payload bytesFrom
+  front-is : byteAt s 0 ∷ tail ≡ take (length s - 4) s
+  unfolding tail payload bytesFrom
   front-is =
       let e : 12 + (length s - 4 - 12) ≡ length s - 4 = omega (arith, f .shared .long) in
       ap (λ (l : List ℕ). l ++ take (length s - 4 - 12) (drop 12 s)) (sym (take-bytes 12 0 s (omega (arith, f .shared .long))))
@@ -112,10 +112,10 @@ module _ (s : List ℕ) (b : Bytes s) (p : check s ≡ 0) where
 
   -- table 3 writes it for the values read
   pub read-is : table3 (read s) ≡ s
-  unfolding table3 read behind address sectionNumber lastSectionNumber tableId
+  unfolding table3 read tail address sectionNumber lastSectionNumber tableId
   read-is =
       rw (byte-1, byte-2, byte-5)
-      (ap (λ (x : ℕ). sealed (x ∷ behind)) (sym (f .shared .table)) ∙ ap sealed front-is ∙ sealed-is s b (omega (arith, f .shared .long)) (f .shared .crc))
+      (ap (λ (x : ℕ). sealed (x ∷ tail)) (sym (f .shared .table)) ∙ ap sealed front-is ∙ sealed-is s b (omega (arith, f .shared .long)) (f .shared .crc))
 
   pub read-limits : Limits (read s)
   unfolding read payloadScramblingControl

@@ -27,7 +27,7 @@ joined-length xs s = rw (joined-more xs s, length-append)
 pub ends-size : {row : List Event} {xs : List (List ℕ)} (e : Ends row xs) → length row ≡ length (e .front) + length xs
 ends-size e = ap length (e .split) ∙ simp (length-append, length-map)
 
--- the row's event at a place behind the front is the section there
+-- the row's event at a place after the front is the section there
 ends-at : {row : List Event} {xs : List (List ℕ)} (e : Ends row xs) (j : ℕ)
     → getD row (length (e .front) + j) (section []) ≡ section (getD xs j [])
 ends-at {row} {xs} e j =
@@ -167,7 +167,7 @@ module _ (c : Settings) (b : List ℕ) where
         key = s .1;
       }
 
-  -- of two whole runs in one row, the later begins behind the end of the earlier
+  -- of two whole runs in one row, the later begins after the end of the earlier
   pub apart : (row later : List Event) {xs ys : List (List ℕ)} → WholeRun c b xs → WholeRun c b ys → Ends row xs
       → (y : Ends (row ++ later) ys) → 0 < length later → length row ≤ length (y .front)
   apart row later {xs} {ys} u v x y longer = go (decLe (length row) (length (y .front)))

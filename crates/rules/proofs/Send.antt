@@ -193,7 +193,7 @@ module _ (c : Settings) (llcSnap : Bool) (n : ℕ) (u : List ℕ) where
   unfolding sectionsTo
   bytes-more k = flatten-more (sectionsTo c llcSnap n u k) (sectionAt c llcSnap n u k)
 
-  -- what k sections and the unit behind them have: the unit's bytes, and 16 more for each
+  -- what k sections and the unit after them have: the unit's bytes, and 16 more for each
   pub bytes-to : (k : ℕ) → length (flatten (sectionsTo c llcSnap n u k)) + length (drop (k * n) u) ≡ length u + 16 * k
   unfolding sectionsTo flatten sectionAt piece
   bytes-to zero = rw (zero-mul n) (omega arith)

@@ -71,7 +71,7 @@ pub record Ready (c : Settings) (b : List ℕ) (row : List Event) (n : ℕ) (d :
   pub bytes : d ≡ unit (joined sections)
   pub size : n ≡ length d
 
--- ---- at the event e behind the row r
+-- ---- at the event e after the row r
 pub record AtEvent (c : Settings) (b : List ℕ) (r : List Event) (e : Event) : Type 0 where
   -- nothing is handed over at a struck event
   pub struck : elsewhere c e ≡ true → handedOver c (after c (fresh b) r) e ≡ nothing

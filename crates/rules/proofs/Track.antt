@@ -128,7 +128,7 @@ module _ (c : Settings) (b : List ℕ) where
           (record { sections = []; run = none c b row (keyOf s); count = refl; filled = refl; bytes = refl })
       from-zero false q p = further σ t p
 
-  -- a section that goes on with a run that the row ends in has its place behind that run
+  -- a section that goes on with a run that the row ends in has its place after that run
   pub placed : (row : List Event) (σ : State) (now s : List ℕ) {κ : Key} (xs : List (List ℕ)) → Track row σ now
       → EndsIn c b row κ xs → InRun c κ (length xs) s → fillFrom σ s ≡ From (length (joined xs))
   unfolding pick both joined fillFrom onward continues
@@ -147,7 +147,7 @@ module _ (c : Settings) (b : List ℕ) where
       )
       (ap From (sym (g .filled) ∙ ap (λ (v : List (List ℕ)). length (joined v)) (same .sections)))
 
-  -- the payload is laid behind what is gathered
+  -- the payload is laid after what is gathered
   pub grown : (row : List Event) (now s : List ℕ) (f : ℕ) → Receivable c s → Gathered row now (sectionNumber s) f (keyOf s)
       → f + length (payload s) ≤ room b → length now ≡ length b
       → Gathered (row ++ (section s ∷ [])) (laid f s now) (sectionNumber s + 1) (f + length (payload s)) (keyOf s)

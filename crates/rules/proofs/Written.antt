@@ -20,7 +20,7 @@ use Rattle.rules.specs.Section.{address, addressScramblingControl, crcFi
 use Rattle.rules.specs.Sound.{Limits, table3, Values}
 use Rattle.rules.proofs.Crc.{crc32-lt}
 
--- ---- bytes with their CRC_32 behind them
+-- ---- bytes with their CRC_32 after them
 pub sealed-length : (s : List ℕ) → length (sealed s) ≡ length s + 4
 unfolding sealed
 sealed-length s = length-append s (bytesOf 4 (crc32 s)) ∙ rw (length-bytesOf 4 (crc32 s))

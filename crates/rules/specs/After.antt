@@ -27,7 +27,7 @@ stored s = take (length s - 16) (drop 12 s)
 abbrev pub storedAt : ℕ → List ℕ → List ℕ → List ℕ
 storedAt f p b = take f b ++ (p ++ drop (f + length p) b)
 
--- the run behind this section, with f bytes filled: the next number, the last number and the LLC_SNAP_flag
+-- the run after this section, with f bytes filled: the next number, the last number and the LLC_SNAP_flag
 abbrev pub runAfter : List ℕ → ℕ → State
 runAfter s f = Open (byteAt s 6 + 1) f (record { last = byteAt s 7; «llc_snap» = eqb (bit 1 (byteAt s 5)) 1 })
 
@@ -56,7 +56,7 @@ abbrev pub ReceiverNames : Type 0
 ReceiverNames = (c : Settings) (σ : State) (s b : List ℕ) → NamedByNumber (stepOf c σ s b .step .answer)
 
 -- ---- the sender
--- sections stand from the start of the output, as many bytes as the length says, and behind them it is as it was
+-- sections stand from the start of the output, as many bytes as the length says, and after them it is as it was
 pub record Written (c : Settings) (llcSnap : Bool) (size : ℕ) (u out : List ℕ) (total : ℕ) (output : List ℕ) : Type 0 where
   pub bytes : List ℕ
   pub sections : Sections c llcSnap size u bytes

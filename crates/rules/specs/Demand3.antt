@@ -77,7 +77,7 @@ pub record Ready (c : Settings) (b : List ℕ) (row : List Event) (n : ℕ) (d :
   pub bytes : d ≡ joined sections
   pub size : n ≡ length d
 
--- at the event e behind the row r, d is handed over
+-- at the event e after the row r, d is handed over
 pub record HandedRight (c : Settings) (b : List ℕ) (r : List Event) (e : Event) (d : Handed) : Type 0 where
   -- nothing at a sound section for another address
   pub struck : Elsewhere c e → d ≡ nothing
@@ -93,7 +93,7 @@ CanBeStruck c = (r : List Event) → OfBytes r → (t : List Event) × Struck c 
 abbrev pub OnlyOne : Settings → List ℕ → Type 0
 OnlyOne c b = (row : List Event) (xs ys : List Values) → WholeRun c b xs → WholeRun c b ys → Ends row xs → Ends row ys → xs ≡ ys
 
--- no section serves two datagrams: of two whole runs that a row ends in, there and further on, the later begins behind the end of the earlier
+-- no section serves two datagrams: of two whole runs that a row ends in, there and further on, the later begins after the end of the earlier
 abbrev pub Once : Settings → List ℕ → Type 0
 Once c b =
     (r q : List Event) (e : Event) → ¬ Elsewhere c e → (t u : List Event) → Struck c r t → Struck c (r ++ (q ++ (e ∷ []))) u

@@ -94,7 +94,7 @@ header a llcSnap number last sectionLength =
     ∷ a .mac1
     ∷ []
 
--- bytes with their CRC_32 behind them
+-- bytes with their CRC_32 after them
 unfoldable pub sealed : List ℕ → List ℕ
 sealed s = s ++ bytesOf 4 (crc32 s)
 

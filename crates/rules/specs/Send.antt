@@ -63,7 +63,7 @@ pub record SendOutcome : Type 0 where
   pub sending : Sending
   pub output : List ℕ
 
--- the sections from the start of the output, what is behind them as it was
+-- the sections from the start of the output, what is after them as it was
 unfoldable pub written : Settings → Bool → ℕ → List ℕ → List ℕ → SendOutcome
 written c llcSnap n u out =
     let bytes : List ℕ = flatten (sections c llcSnap n u) in

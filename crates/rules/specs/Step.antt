@@ -67,7 +67,7 @@ pub data Fill : Type 0 where
   Nowhere : Fill
   From : ℕ → Fill
 
--- behind what the open run has filled
+-- after what the open run has filled
 unfoldable pub onward : State → List ℕ → Fill
 onward Idle s = Nowhere
 onward (Open e f κ) s = pick (continues e κ s) (From f) Nowhere

@@ -1,4 +1,4 @@
-// What a sender writes before the payload and behind it.
+// What a sender writes before the payload and after it.
 use rules::Address;
 ghost use mathlib.Core.Path.{_≡_};
 ghost use Rattle.rules.specs.Section.{header};

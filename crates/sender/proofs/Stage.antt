@@ -68,7 +68,7 @@ module _ (c : Settings) (llcSnap : Bool) (n : ℕ) (u before : List ℕ) where
         let cut : take m rest ≡ take n (drop (i * n) u) =
         ap (λ (k : ℕ). take k rest) e ∙ take-min n rest ∙ ap (take n) (s .left) in
         let is : sec ≡ sectionAt c llcSnap n u i = rw (cut, s .ending, s .counted) in
-        let behind : length (drop m rest) ≤ length rest - m = omega (arith, length-drop m rest) in
+        let fits : length (drop m rest) ≤ length rest - m = omega (arith, length-drop m rest) in
         let next : i * n + n ≡ (i + 1) * n = rw (add-one i) (sym (suc-mul i n)) in
         record {
           accepted = s .accepted;
@@ -77,7 +77,7 @@ module _ (c : Settings) (llcSnap : Bool) (n : ℕ) (u before : List ℕ) where
           within = omega arith;
           same = puts-length p ∙ s .same;
           left =
-              take-all (length rest - m) (drop m rest) behind
+              take-all (length rest - m) (drop m rest) fits
               ∙ ap (λ (k : ℕ). drop k rest) e ∙ drop-min n rest ∙ ap (drop n) (s .left)
               ∙ drop-drop n (i * n) u ∙ ap (λ (k : ℕ). drop k u) next;
           puts = rw (add-one i, bytes-more c llcSnap n u i, ← is) (puts-then (s .puts) p);

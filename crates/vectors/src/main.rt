@@ -90,7 +90,7 @@ fn table_lines() {
     crc_line(b"program-map", map);
 }
 
-// The octets from 1 to 40, and behind them what AAL5 puts there.
+// The octets from 1 to 40, and after them what AAL5 puts there.
 fn counting() -> [u8; 44]
     ensures { λ r. ⌜ 44 ≡ length r ⌝ }
 {

@@ -36,7 +36,7 @@ unfolding bytesOf
 length-bytesOf zero x = refl
 length-bytesOf (suc n) x = ap suc (length-bytesOf n x)
 
--- what is written behind p is read there: the n low bytes of the number
+-- what is written after p is read there: the n low bytes of the number
 pub numberAt-bytesOf : (n x : ℕ) (p q : List ℕ) → numberAt n (p ++ (bytesOf n x ++ q)) (length p) ≡ x % 256 ^ n
 unfolding numberAt bytesOf
 numberAt-bytesOf zero x p q = sym (mod-one x)

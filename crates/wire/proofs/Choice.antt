@@ -65,11 +65,11 @@ without-step {k} true w n x e h = absurd (other (eqb n k) (eq-eqb n k h) e)
     other : (q : Bool) → q ≡ true → both (not q) w ≡ true → ⊥
     other true p f = never f
     other false p f = never p
-without-step {k} false w n x e h = (refl, behind (eqb n k) e, h)
+without-step {k} false w n x e h = (refl, rest-holds (eqb n k) e, h)
   where
-    behind : (q : Bool) → both (not q) w ≡ true → w ≡ true
-    behind true f = absurd (never f)
-    behind false f = f
+    rest-holds : (q : Bool) → both (not q) w ≡ true → w ≡ true
+    rest-holds true f = absurd (never f)
+    rest-holds false f = f
 
 -- the first part gives none
 pub firstOf-past : (a b : List Line) → without 0 a ≡ true → firstOf a ≡ 0 → firstOf (a ++ b) ≡ firstOf b

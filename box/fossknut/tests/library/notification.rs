@@ -78,8 +78,8 @@ fn as_many_descriptors_as_can_be() {
             assert_eq!(section.len(), 4_096);
             assert_eq!(library.notification(OURS, section), (4, 0), "{tag:#04X}");
         }
-        let behind = [&empty.repeat(2_030)[..], &descriptor(0x80, &[0]), LOCATION].concat();
-        let last = with_loops(&[vec![], vec![], behind]);
+        let after = [&empty.repeat(2_030)[..], &descriptor(0x80, &[0]), LOCATION].concat();
+        let last = with_loops(&[vec![], vec![], after]);
         assert_eq!(library.notification(OURS, &last), (3, 4_096 - 4 - 9));
     }
 }

@@ -240,7 +240,7 @@ fn what_the_wrapper_sends_the_wrapper_receives() {
         let mut receiver = fossknut::Receiver::new(settings, vec![0; unit.len()]);
         let mut delivered = false;
         for (_, section) in offers(&output[..length]) {
-            assert!(!delivered, "a section behind the last");
+            assert!(!delivered, "a section after the last");
             match receiver.receive(section) {
                 Answer::Stored => {}
                 answer => {

@@ -198,7 +198,7 @@ fn wrong_length(random: &mut Random) -> Vec<u8> {
     descriptor(tag, &random.bytes(length))
 }
 
-/// `section`, which has these loops, with its last loop one byte short, or with something behind it
+/// `section`, which has these loops, with its last loop one byte short, or with something after it
 /// that does not fill the rest.
 fn misfit(random: &mut Random, mut section: Vec<u8>, loops: &[Vec<u8>]) -> Vec<u8> {
     let end = section.len() - CRC_32;

@@ -36,10 +36,10 @@ pub fn named(name: &str) -> Option<Vec<u8>> {
         .bytes()
         .fold(0, |seed, byte| seed << 5 ^ u64::from(byte));
     let random = &mut Random::new(seed);
-    if let Some(length) = number_behind(name, "cut-") {
+    if let Some(length) = number_after(name, "cut-") {
         return uncut().get(..length).map(<[u8]>::to_vec);
     }
-    if let Some(length) = number_behind(name, "bytes-") {
+    if let Some(length) = number_after(name, "bytes-") {
         return Some(random.bytes(length));
     }
     Some(match name {
@@ -59,7 +59,7 @@ pub fn named(name: &str) -> Option<Vec<u8>> {
     })
 }
 
-fn number_behind(name: &str, prefix: &str) -> Option<usize> {
+fn number_after(name: &str, prefix: &str) -> Option<usize> {
     name.strip_prefix(prefix)?.parse().ok()
 }
 

@@ -55,7 +55,7 @@ fn one_address(mask: [u8; 6], address: [u8; 6]) -> Vec<u8> {
     descriptor(0x07, &[mask, address].concat())
 }
 
-#[rustfmt::skip] // a row a line
+#[rustfmt::skip] // one row per line
 fn headers() -> Vec<Row> {
     let empty = int(&[NONE]);
     let mut section_length = empty.clone();
@@ -81,7 +81,7 @@ fn headers() -> Vec<Row> {
     ]
 }
 
-#[rustfmt::skip] // a row a line
+#[rustfmt::skip] // one row per line
 fn loops() -> Vec<Row> {
     let located = int(&[LOCATION]);
     let eight_bytes = int(&[b"\x13\x0812345678"]);
@@ -102,7 +102,7 @@ fn loops() -> Vec<Row> {
     ]
 }
 
-#[rustfmt::skip] // a row a line
+#[rustfmt::skip] // one row per line
 fn lengths() -> Vec<Row> {
     let all = one_address([0; 6], OURS);
     vec![
@@ -110,7 +110,7 @@ fn lengths() -> Vec<Row> {
         ("A23: 0x07 of 5 bytes in an operational loop", int(&[NONE, NONE, b"\x07\x0512345"]), 33, 0),
         ("A23: 0x13 of 10 bytes in a target loop", targeted(b"\x13\x0A1234567890"), 33, 0),
         ("A23: a 0x07 that matches in an operational loop", int(&[LOCATION, UNKNOWN, &all]), 4, 0),
-        ("A25: 33 behind the covering pair", int(&[NONE, NONE, LOCATION, b"\x0E\x01!", NONE]), 33, 0),
+        ("A25: 33 after the covering pair", int(&[NONE, NONE, LOCATION, b"\x0E\x01!", NONE]), 33, 0),
         ("A26: 0x07 of length 0", targeted(b"\x07\x00"), 33, 0),
         ("A26: 0x07 with no address", targeted(b"\x07\x06\0\0\0\0\0\0"), 4, 0),
         ("A26: 0x0E of length 0", targeted(b"\x0E\x00"), 4, 0),
@@ -119,7 +119,7 @@ fn lengths() -> Vec<Row> {
     ]
 }
 
-#[rustfmt::skip] // a row a line
+#[rustfmt::skip] // one row per line
 fn covering() -> Vec<Row> {
     let ones = [0xFF; 6];
     let next = [0x02, 0x00, 0x5E, 0x10, 0x20, 0x31];
@@ -146,7 +146,7 @@ fn covering() -> Vec<Row> {
     ]
 }
 
-#[rustfmt::skip] // a row a line
+#[rustfmt::skip] // one row per line
 fn locations() -> Vec<Row> {
     let match_all = one_address([0; 6], [0; 6]);
     let two = [LOCATION, ELSEWHERE].concat();
@@ -157,6 +157,6 @@ fn locations() -> Vec<Row> {
         ("01: the first of two", int(&[NONE, NONE, &two]), 3, 20),
         ("01: the first covering pair of two", int(&[NONE, NONE, LOCATION, NONE, ELSEWHERE]), 3, 20),
         ("01: not one of a pair that does not cover", int(&[NONE, UNKNOWN, LOCATION, NONE, NONE]), 4, 0),
-        ("A28: behind another descriptor", int(&[NONE, NONE, &[UNKNOWN, LOCATION].concat()]), 3, 22),
+        ("A28: after another descriptor", int(&[NONE, NONE, &[UNKNOWN, LOCATION].concat()]), 3, 22),
     ]
 }

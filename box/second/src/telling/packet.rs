@@ -37,14 +37,14 @@ fn read(
     })
 }
 
-/// These bytes, and zeros behind them up to that length.
+/// These bytes, and zeros after them up to that length.
 fn padded(start: &[u8], length: usize) -> Vec<u8> {
     let mut packet = start.to_vec();
     packet.resize(length, 0);
     packet
 }
 
-#[rustfmt::skip] // a row a line
+#[rustfmt::skip] // one row per line
 fn samples_of_01() -> Vec<Row> {
     let synchronous = b"\x21\x05\xF6\xFF\x2B\xF0\x1F\x40\x00\xAA\xBB".to_vec();
     vec![
@@ -54,7 +54,7 @@ fn samples_of_01() -> Vec<Row> {
     ]
 }
 
-#[rustfmt::skip] // a row a line
+#[rustfmt::skip] // one row per line
 fn of_readings() -> Vec<Row> {
     vec![
         ("A29: 21 00 4F", b"\x21\x00\x4F".to_vec(), Err(42)),

@@ -69,7 +69,7 @@ fn unit_of_7() -> Vec<Event> {
     vec![ours(0, 2, 4), ours(1, 2, 0), ours(2, 2, 3)]
 }
 
-#[rustfmt::skip] // a row a line
+#[rustfmt::skip] // one row per line
 fn samples_of_01() -> Vec<Row> {
     let repeated = vec![ours(0, 2, 1), ours(1, 2, 1), ours(1, 2, 1)];
     let halves = vec![ours(0, 1, 3), damaged(ours(1, 1, 3)), damaged(ours(0, 1, 4)), ours(1, 1, 4)];
@@ -86,7 +86,7 @@ fn samples_of_01() -> Vec<Row> {
     ]
 }
 
-#[rustfmt::skip] // a row a line
+#[rustfmt::skip] // one row per line
 fn continuations() -> Vec<Row> {
     let flagged = Section(with_byte(&sound(OURS, 1, 1, b"knut"), 5, 0xC3));
     let gone = vec![ours(0, 2, 1), ours(2, 2, 1), ours(1, 2, 1)];
@@ -100,7 +100,7 @@ fn continuations() -> Vec<Row> {
     ]
 }
 
-#[rustfmt::skip] // a row a line
+#[rustfmt::skip] // one row per line
 fn passing_by() -> Vec<Row> {
     let between = |event| vec![ours(0, 1, 2), event, ours(1, 1, 3)];
     vec![
@@ -111,7 +111,7 @@ fn passing_by() -> Vec<Row> {
     ]
 }
 
-#[rustfmt::skip] // a row a line
+#[rustfmt::skip] // one row per line
 fn states() -> Vec<Row> {
     let run = |next, last, filled| Some(Run { next, last, filled, llc_snap: false });
     let too_long = vec![ours(0, 1, 6), ours(1, 1, 1)];
@@ -125,7 +125,7 @@ fn states() -> Vec<Row> {
     ]
 }
 
-#[rustfmt::skip] // a row a line
+#[rustfmt::skip] // one row per line
 fn first_sections() -> Vec<Row> {
     let limit = |limit| Settings { limit, ..SETTINGS };
     let run = Some(Run { next: 1, last: 2, filled: 9, llc_snap: false });

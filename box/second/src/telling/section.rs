@@ -31,7 +31,7 @@ fn with_payload(length: usize) -> Vec<u8> {
     sound(OURS, 0, 0, &vec![0x55; length])
 }
 
-#[rustfmt::skip] // a row a line
+#[rustfmt::skip] // one row per line
 fn samples_of_01() -> Vec<Row> {
     vec![
         ("01: payload of 4 bytes", with_payload(4), 0),
@@ -44,7 +44,7 @@ fn samples_of_01() -> Vec<Row> {
     ]
 }
 
-#[rustfmt::skip] // a row a line
+#[rustfmt::skip] // one row per line
 fn lengths() -> Vec<Row> {
     let int = |length: usize| with_byte(&with_payload(length - 16), 0, 0x4C);
     let mut section_length_5 = with_payload(0);
@@ -62,7 +62,7 @@ fn lengths() -> Vec<Row> {
     ]
 }
 
-#[rustfmt::skip] // a row a line
+#[rustfmt::skip] // one row per line
 fn ignored_bits() -> Vec<Row> {
     let shortest = with_payload(0);
     let another = |byte_5| with_byte(&sound([2, 0, 0, 0, 0, 1], 0, 255, &[]), 5, byte_5);

@@ -51,7 +51,7 @@ fn sending(
     }
 }
 
-#[rustfmt::skip] // a row a line
+#[rustfmt::skip] // one row per line
 fn samples_of_01() -> Vec<Sending> {
     let header = vec![0x3E, 0xB0, 0x11, 0x30, 0x20, 0xC1, 0x00, 0x00, 0x10, 0x5E, 0x00, 0x02];
     vec![
@@ -62,7 +62,7 @@ fn samples_of_01() -> Vec<Sending> {
     ]
 }
 
-#[rustfmt::skip] // a row a line
+#[rustfmt::skip] // one row per line
 fn numbers() -> Vec<Sending> {
     let settings = Settings { limit: 256, ..SETTINGS };
     let with_flag = vec![0x3E, 0xB0, 0x0D, 0x30, 0x20, 0xC3];
@@ -79,7 +79,7 @@ fn numbers() -> Vec<Sending> {
     ]
 }
 
-#[rustfmt::skip] // a row a line
+#[rustfmt::skip] // one row per line
 fn refusals() -> Vec<Sending> {
     vec![
         sending("50: piece size 4,081", Some(4_081), 0, (50, 0)),

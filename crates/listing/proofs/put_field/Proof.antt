@@ -1,4 +1,4 @@
--- A number has up to 20 digits, and the byte stands behind them.
+-- A number has up to 20 digits, and the byte stands after them.
 use native.Mathlib.Omega.{arith}
 use Rattle.listing.specs.Text.{field}
 use Rattle.listing.proofs.Text.{decimal-short}

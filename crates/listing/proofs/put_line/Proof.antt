@@ -1,4 +1,4 @@
--- Three fields of up to 21 bytes stand behind each other.
+-- Three fields of up to 21 bytes stand after each other.
 use native.Mathlib.Omega.{arith}
 use Rattle.listing.proofs.Text.{put-line, field-end}
 use Rattle.wire.proofs.Puts.{puts-length}
