@@ -26,7 +26,7 @@ use Rattle.demands.specs.Contracts as contracts
 pub record Findings (device : Address) (s : List ℕ) (number : ℕ) (Told : Answer → Type 0) : Type 0 where
   -- the first of 12 to 18, 30 to 33, 3 and 4 that applies
   pub means : Bytes s → (k : ℕ) → (number ≡ k) ↔ FirstThat k (notificationRows device s)
-  -- a section that table 13 writes is answered as its value says, 3 with the nine bytes and their place
+  -- a section that table 13 writes is answered as its value says, 3 with the nine bytes and their offset
   pub written : (n : Notification) → Conforms n → notificationWritten n ≡ s → Told (answerTo device n)
   -- and 3 and 4 are answered to no other
   pub taken : Bytes s → (number ≡ 3) ⊎ (number ≡ 4) → Written s
@@ -62,7 +62,7 @@ packetNumbers r p =
 pub record Readers : Type 0 where
   pub finding : Allowed contracts.finding
       (λ κs (device, (s, _)) z e. Findings device (now s) (findingNumber z) (λ x. z ≡ x .finding))
-  -- the number is written through `answer`; z is that part of the section, bytes and place
+  -- the number is written through `answer`; z is that part of the section, bytes and offset
   pub notification-read : Allowed contracts.notification-read
       (λ κs (device, (s, _)) z (_, (_, (answer, _))).
       Findings device (now s) (now answer) (λ x. (now answer ≡ x .number) × Is (s .ptr) (x .given) z))
@@ -71,7 +71,7 @@ pub record Readers : Type 0 where
       Findings (given .device) (given .section) z (λ x. (z ≡ x .number) × (offsetGave κs e ≡ x .given .offset)))
   pub pes-read : Allowed contracts.pes-read
       (λ κs (packet, _) z e. Packets (now packet) (z .answer) (λ r p. z ≡ r))
-  -- z is the data part of the packet, bytes and place; the number is not told, and is the rows' own
+  -- z is the data part of the packet, bytes and offset; the number is not told, and is the rows' own
   pub pes-data : Allowed contracts.pes-data
       (λ κs (packet, _) z e. (k : ℕ) × Packets (now packet) k (λ r p. Is (packet .ptr) p z))
   pub fossknut-pes : Allowed contracts.fossknut-pes

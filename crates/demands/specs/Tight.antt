@@ -13,7 +13,7 @@ use Rattle.demands.specs.Contracts as contracts
 abbrev pub OneResult : Function → Type 0
 OneResult f = AnyTwo f (λ κs z y e d. z ≡ y)
 
--- which part of what was lent is handed out: its bytes, its block and its place there
+-- which part of what was lent is handed out: its bytes, its block and its offset there
 abbrev pub SamePart : RefT (List ℕ) → RefT (List ℕ) → Type 0
 SamePart z y = (now z ≡ now y) × (ptr z .0 ≡ ptr y .0) × (ptr z .1 ≡ ptr y .1)
 

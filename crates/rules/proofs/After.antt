@@ -76,9 +76,9 @@ module _ (σ : State) (s b : List ℕ) (P : Outcome → Type 0) (refused : (n : 
       go true = by-room f (ap (λ (τ : State). filledBefore τ (byteAt s 6)) is ∙ filled-open n f κ (byteAt s 6) h)
       go false = nowhere
 
-  by-place : P (lay (fillFrom σ s) s b)
+  by-fill : P (lay (fillFrom σ s) s b)
   unfolding fillFrom sectionNumber pick
-  by-place = go (eqb (byteAt s 6) 0) refl
+  by-fill = go (eqb (byteAt s 6) 0) refl
     where
       go : (t : Bool) → eqb (byteAt s 6) 0 ≡ t → P (lay (pick t (From 0) (onward σ s)) s b)
       go true e = by-room 0 (filled-zero σ (byteAt s 6) (eqb-true _ _ e))
@@ -93,7 +93,7 @@ module _ (σ : State) (s b : List ℕ) (P : Outcome → Type 0) (refused : (n : 
   unfolding setupLines stepOf without both checkLines sharedLines formLines orderLines ownLines
   by-step c =
       by-lines (setupLines c σ) _ refl refl refl
-      (by-lines (checkLines s) _ refl refl refl (by-address (ours c s) _ (by-lines (ownLines c s) _ refl refl refl by-place)))
+      (by-lines (checkLines s) _ refl refl refl (by-address (ours c s) _ (by-lines (ownLines c s) _ refl refl refl by-fill)))
 
 -- ---- what goes with each
 abbrev After : State → List ℕ → List ℕ → Outcome → Type 0

@@ -25,7 +25,7 @@ use Rattle.rules.proofs.Due.{no-datagram}
 use Rattle.rules.proofs.Exactly.{read-back}
 use Rattle.rules.proofs.Good.{good-is}
 use Rattle.rules.proofs.Read.{read, read-is, read-limits}
-use Rattle.rules.proofs.Written.{carried, clear-back, flagged-back, last-back, number-back, places, written-sound}
+use Rattle.rules.proofs.Written.{carried, clear-back, flagged-back, last-back, number-back, address-back, written-sound}
 use Rattle.rules.proofs.Row.{row-theorem}
 use Rattle.rules.proofs.Runs as runs
 use Rattle.rules.proofs.Tested as tested
@@ -39,11 +39,11 @@ own-read c s = compares-last (c .range) (c .address) (address s)
 
 own-written : (c : Settings) (v : Values) → (ours c (table3 v) ≡ true) ↔ Own c v
 unfolding ours
-own-written c v = rw (places v) (compares-last (c .range) (c .address) (v .address))
+own-written c v = rw (address-back v) (compares-last (c .range) (c .address) (v .address))
 
-unfoldable Given : Event → Type 0
-Given (section s) = Bytes s
-Given gap = Unit
+unfoldable EventBytes : Event → Type 0
+EventBytes (section s) = Bytes s
+EventBytes gap = Unit
 
 not-so : (t : Bool) → (t ≡ true → ⊥) → t ≡ false
 not-so true h = absurd (h refl)
@@ -55,8 +55,8 @@ same-section p = cc
 no-section : {s : List ℕ} → gap ≡ section s → ⊥
 no-section p = let z : _≡_ {A = ℕ} 0 1 = cc in omega arith
 
-tells : (c : Settings) (e : Event) → Given e → (elsewhere c e ≡ true) ↔ Elsewhere c e
-unfolding Given elsewhere both
+tells : (c : Settings) (e : Event) → EventBytes e → (elsewhere c e ≡ true) ↔ Elsewhere c e
+unfolding EventBytes elsewhere both
 tells c (section s) b = (
   λ p.
       let parts = both-true _ _ p in
@@ -74,12 +74,12 @@ tells c (section s) b = (
 tells c gap b = (λ p. absurd (never p), λ w. absurd (no-section (w .is)))
 
 -- ---- the struck row, in words
-of-front : (e : Event) (r : List Event) → OfBytes (e ∷ r) → Given e × OfBytes r
-unfolding OfBytes Given
+of-front : (e : Event) (r : List Event) → OfBytes (e ∷ r) → EventBytes e × OfBytes r
+unfolding OfBytes EventBytes
 of-front (section s) r b = (b .0, b .1)
 of-front gap r b = (tt, b)
 
-struck-more : (c : Settings) (e : Event) (r t : List Event) → Given e → Struck c r t → Struck c (e ∷ r) (pick (elsewhere c e) t (e ∷ t))
+struck-more : (c : Settings) (e : Event) (r t : List Event) → EventBytes e → Struck c r t → Struck c (e ∷ r) (pick (elsewhere c e) t (e ∷ t))
 unfolding Struck pick
 struck-more c e r t b h = go (elsewhere c e) refl
   where
@@ -198,8 +198,8 @@ of-after [] q b = b
 of-after (section s ∷ r) q b = of-after r q (b .1)
 of-after (gap ∷ r) q b = of-after r q b
 
-of-last : (r : List Event) (e : Event) → OfBytes (r ++ (e ∷ [])) → Given e
-unfolding OfBytes Given
+of-last : (r : List Event) (e : Event) → OfBytes (r ++ (e ∷ [])) → EventBytes e
+unfolding OfBytes EventBytes
 of-last r (section s) b = of-after r (section s ∷ []) b .0
 of-last r gap b = tt
 
@@ -304,7 +304,7 @@ module _ (c : Settings) (b : List ℕ) where
   bad-hands bad h (section s) = rw bad
   bad-hands bad h gap = refl
 
-  kept : (e : Event) → Given e → ¬ Elsewhere c e → elsewhere c e ≡ false
+  kept : (e : Event) → EventBytes e → ¬ Elsewhere c e → elsewhere c e ≡ false
   kept e g h = not-so (elsewhere c e) (λ p. h (tells c e g .0 p))
 
   -- ---- the demand

@@ -21,10 +21,10 @@ use Rattle.rules.specs.Step.{Outcome, ours, outcome, refuse, refuseFirst
 use Rattle.rules.specs.Row.{Event, section, Held, fresh, nothing, datagram, handedBy}
 use Rattle.rules.proofs.Tested.{elsewhere, joined}
 use Rattle.rules.proofs.Tested.{Receivable, WholeRun, Ready}
-use Rattle.rules.proofs.Sound.{no-bar, unbarred}
+use Rattle.rules.proofs.Sound.{none-own, own-none}
 use Rattle.rules.proofs.Runs.{EndsIn, ends-size, Next, next, Same, only, whole-ends}
 use Rattle.rules.proofs.Track.{key-last, in-order, room-bounds, room-same, laid-length, nowhere}
-use Rattle.rules.proofs.Track.{Gathered, Track, within, good-state, follows, placed, grown}
+use Rattle.rules.proofs.Track.{Gathered, Track, within, good-state, follows, filled-from, grown}
 use Rattle.rules.proofs.Finish.{handed, held, carried, ready, finish-held, finish-hands}
 
 pub no-datagram : {n : ℕ} {d : List ℕ} → nothing ≡ datagram n d → ⊥
@@ -131,9 +131,9 @@ module _ (c : Settings) (b : List ℕ) where
     refusing : {n : ℕ} → ((κ : Key) → Next c b past s κ → ⊥) → Here (refuse n (h .buffer))
     refusing no-next = refused (λ κ xs e some. no-next κ (next c b e some))
 
-    -- the place that a run asks for is the place that there is
-    place-is : (p : Fill) → fillFrom (h .state) s ≡ p → {κ : Key} (l : Next c b past s κ) → p ≡ From (length (joined (l .init)))
-    place-is p q l = sym q ∙ placed c b past (h .state) (h .buffer) s (l .init) (i .track) (l .before) (l .piece)
+    -- where a run asks for the payload is where it goes
+    fill-is : (p : Fill) → fillFrom (h .state) s ≡ p → {κ : Key} (l : Next c b past s κ) → p ≡ From (length (joined (l .init)))
+    fill-is p q l = sym q ∙ filled-from c b past (h .state) (h .buffer) s (l .init) (i .track) (l .before) (l .in-run)
 
     keeps : Receivable c s → (f : ℕ) → fillFrom (h .state) s ≡ From f → f + length (payload s) ≤ room (h .buffer)
         → Here (keep f s (h .buffer))
@@ -150,12 +150,12 @@ module _ (c : Settings) (b : List ℕ) where
 
     lays : Receivable c s → (p : Fill) → fillFrom (h .state) s ≡ p → Here (lay p s (h .buffer))
     unfolding lay
-    lays k Nowhere q = refusing (λ κ l. nowhere (place-is Nowhere q l))
+    lays k Nowhere q = refusing (λ κ l. nowhere (fill-is Nowhere q l))
     lays k (From f) q =
         pick-case Here _ _ _ (λ t. keeps k f q (leb-true _ _ t))
         (λ t. refusing (λ κ l.
         let over : room (h .buffer) < f + length (payload s) = leb-false _ _ t in
-        let is : From f ≡ From (length (joined (l .init))) = place-is (From f) q l in
+        let is : From f ≡ From (length (joined (l .init))) = fill-is (From f) q l in
         let f-is : f ≡ length (joined (l .init)) = cc in
         omega (arith, room-same (h .buffer) b (i .size), l .fits)))
 
@@ -168,9 +168,9 @@ module _ (c : Settings) (b : List ℕ) where
         pick-case Here _ _ _ (λ sound.
         pick-case Here _ _ _ (λ address.
         pick-case Here _ _ _ (λ free.
-        let t = unbarred c s (eqb-true _ _ free) in
+        let t = own-none c s (eqb-true _ _ free) in
         lays (record { sound = eqb-true _ _ sound; address = address; clear = t .0; within = t .1 }) (fillFrom (h .state) s) refl)
-        (λ barred. refusing (λ κ l. let r = l .piece .receivable in eqb-false _ _ barred (no-bar c s (r .clear) (r .within)))))
+        (λ refused. refusing (λ κ l. let r = l .in-run .receivable in eqb-false _ _ refused (none-own c s (r .clear) (r .within)))))
         (λ foreign. absurd (never (sym kept ∙ struck-is c s (eqb-true _ _ sound) foreign))))
-        (λ faulty. refusing (λ κ l. eqb-false _ _ faulty (l .piece .receivable .sound))))
+        (λ unsound. refusing (λ κ l. eqb-false _ _ unsound (l .in-run .receivable .sound))))
         (λ bad. absurd (eqb-false _ _ bad (settled c (h .state) good fine)))

@@ -5,12 +5,12 @@ use Rattle.rules.specs.Check.{check}
 use Rattle.rules.specs.Section.{address, lastSectionNumber, llcSnapFlag, payload, payloadScramblingControl, sectionNumber}
 use Rattle.rules.specs.Sound.{Limits, SoundExactly, table3, Values}
 use Rattle.rules.proofs.Read.{read, read-is, read-limits}
-use Rattle.rules.proofs.Written.{b5, bits-1, carried, clear-back, flagged-back, last-back, number-back, places, written-sound}
+use Rattle.rules.proofs.Written.{b5, bits-1, carried, clear-back, flagged-back, last-back, number-back, address-back, written-sound}
 
 pub read-back : (v : Values) → Limits v → read (table3 v) ≡ v
 unfolding read
 read-back v l =
-    let addressed : address (table3 v) ≡ v .address = places v in
+    let addressed : address (table3 v) ≡ v .address = address-back v in
     let scrambling : payloadScramblingControl (table3 v) ≡ v .scrambling = clear-back v l in
     let llcSnap : llcSnapFlag (table3 v) ≡ v .llcSnap = flagged-back v l in
     let number : sectionNumber (table3 v) ≡ v .number = number-back v in

@@ -161,9 +161,9 @@ module _ (s b : List ℕ) where
           gives-row false 22 (λ z. absurd (never z), λ w. absurd (w .1 (h .0 refl))) (λ _. gives-laid (Open n f κ) f (filled-open n f κ (byteAt s 6) e) l)
       go false h = stopped (Open n f κ) e (λ w. never (h .1 w))
 
-  gives-placed : (σ : State) → 16 ≤ length s → Gives (number (lay (fillFrom σ s) s b)) (row22 σ ∷ rows23 σ)
+  gives-filled : (σ : State) → 16 ≤ length s → Gives (number (lay (fillFrom σ s) s b)) (row22 σ ∷ rows23 σ)
   unfolding fillFrom sectionNumber pick first
-  gives-placed σ l = go (eqb (byteAt s 6) 0) refl
+  gives-filled σ l = go (eqb (byteAt s 6) 0) refl
     where
       go : (t : Bool) → eqb (byteAt s 6) 0 ≡ t → Gives (number (lay (pick t (From 0) (onward σ s)) s b)) (row22 σ ∷ rows23 σ)
       go true e =
@@ -198,7 +198,7 @@ receiver-means c σ s b n =
     gives-check s _ _ (λ l.
     gives-row _ 2 (tells-not _ (own-tells c s)) (λ _.
     gives-row _ 20 (tells-not _ (tells-eq (bits 5 4 (byteAt s 5)) 0)) (λ _.
-    gives-row _ 21 (tells-lt (c .limit) (byteAt s 7 + 1)) (λ _. gives-placed s b σ l)))))) .exactly n)
+    gives-row _ 21 (tells-lt (c .limit) (byteAt s 7 + 1)) (λ _. gives-filled s b σ l)))))) .exactly n)
 
 -- ---- the sender
 module _ (n : ℕ) (u : List ℕ) (some : 0 < n) where

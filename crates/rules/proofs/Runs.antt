@@ -1,4 +1,4 @@
--- A section's number and its place in the row say where its run begins, so runs that share a section are one.
+-- A section's number and its index in the row say where its run begins, so runs that share a section are one.
 use Prim.Native.Nat.{ℕ, suc, _+_, _*_, _-_, _≤_, _<_}
 use native.Mathlib.Decide.{decLe, decLt}
 use native.Mathlib.Omega.{arith}
@@ -23,11 +23,11 @@ joined-more (x ∷ xs) s = rw (joined-more xs s, append-assoc)
 pub joined-length : (xs : List (List ℕ)) (s : List ℕ) → length (joined (xs ++ (s ∷ []))) ≡ length (joined xs) + length (payload s)
 joined-length xs s = rw (joined-more xs s, length-append)
 
--- ---- places in a row
+-- ---- indexes in a row
 pub ends-size : {row : List Event} {xs : List (List ℕ)} (e : Ends row xs) → length row ≡ length (e .front) + length xs
 ends-size e = ap length (e .split) ∙ simp (length-append, length-map)
 
--- the row's event at a place after the front is the section there
+-- the row's event at an index after the front is the section there
 ends-at : {row : List Event} {xs : List (List ℕ)} (e : Ends row xs) (j : ℕ)
     → getD row (length (e .front) + j) (section []) ≡ section (getD xs j [])
 ends-at {row} {xs} e j =
@@ -96,7 +96,7 @@ module _ (c : Settings) (b : List ℕ) where
   pub record Next (past : List Event) (s : List ℕ) (κ : Key) : Type 0 where
     pub init : List (List ℕ)
     pub before : EndsIn past κ init
-    pub piece : InRun c κ (length init) s
+    pub in-run : InRun c κ (length init) s
     pub fits : length (joined init) + length (payload s) ≤ room b
 
   next-of : {past : List Event} {s : List ℕ} {κ : Key} (init : List (List ℕ))
@@ -116,7 +116,7 @@ module _ (c : Settings) (b : List ℕ) where
         init = init;
         before =
             record { run = run; there = record { front = e .there .front; split = first-parts past before _ _ split sizes } };
-        piece = rw (getD-append-seam init s [] []) at (e .run .each (length init) (omega (arith, length-more init s)));
+        in-run = rw (getD-append-seam init s [] []) at (e .run .each (length init) (omega (arith, length-more init s)));
         fits = rw (joined-length init s) at (e .run .fits);
       }
 
@@ -131,7 +131,7 @@ module _ (c : Settings) (b : List ℕ) where
 
   -- ---- runs that share a section
   -- a run in a row and one in a longer row that begins before the first has ended: they share the first's last section, so they
-  -- begin at one place and agree
+  -- begin at one index and agree
   shared : {row : List Event} (later : List Event) {κ μ : Key} {xs ys : List (List ℕ)} (x : EndsIn row κ xs)
       (y : EndsIn (row ++ later) μ ys) → 0 < length xs → length (y .there .front) < length row
       → (length (x .there .front) ≡ length (y .there .front)) × (κ ≡ μ)

@@ -82,13 +82,13 @@ pub payload-small : (s : List ℕ) → check s ≡ 0 → length (payload s) ≤ 
 payload-small s p = let a : Sound s = sound s p in omega (arith, payload-length s (a .shared .long), a .shared .short)
 
 -- ---- neither 20 nor 21 applies
-pub unbarred : (c : Settings) (s : List ℕ) → ownRefusal c s ≡ 0 → (payloadScramblingControl s ≡ 0) × (lastSectionNumber s + 1 ≤ c .limit)
+pub own-none : (c : Settings) (s : List ℕ) → ownRefusal c s ≡ 0 → (payloadScramblingControl s ≡ 0) × (lastSectionNumber s + 1 ≤ c .limit)
 unfolding ownRefusal ownLines payloadScrambled overLimit
-unbarred c s p =
+own-none c s p =
     let t20 = none-first _ _ (omega arith) p in
     let t21 = none-first _ _ (omega arith) (t20 .1) in
     (eqb-true _ _ (not-false _ (t20 .0)), ltb-false _ _ (t21 .0))
 
-pub no-bar : (c : Settings) (s : List ℕ) → payloadScramblingControl s ≡ 0 → lastSectionNumber s + 1 ≤ c .limit → ownRefusal c s ≡ 0
+pub none-own : (c : Settings) (s : List ℕ) → payloadScramblingControl s ≡ 0 → lastSectionNumber s + 1 ≤ c .limit → ownRefusal c s ≡ 0
 unfolding ownRefusal ownLines payloadScrambled overLimit firstOf first
-no-bar c s e h = rw (e, le-ltb (c .limit) (lastSectionNumber s + 1) h)
+none-own c s e h = rw (e, le-ltb (c .limit) (lastSectionNumber s + 1) h)

@@ -1,4 +1,4 @@
--- A section has a place exactly where it goes on with a run that the row ends in, since the state says which run that is.
+-- A payload goes somewhere exactly where it goes on with a run that the row ends in, since the state says which run that is.
 use Prim.Native.Nat.{ℕ, _+_, _*_, _≤_, _<_}
 use native.Mathlib.Nat.{le-refl}
 use native.Mathlib.Omega.{arith}
@@ -101,8 +101,8 @@ module _ (c : Settings) (b : List ℕ) where
         le-leb f (4080 * e) (omega (arith, g .filled, g .count)),
       )
 
-  -- ---- the place of a section's payload
-  -- a section that has a place goes on with a run that the row ends in
+  -- ---- where a section's payload goes
+  -- a section whose payload goes somewhere goes on with a run that the row ends in
   pub follows : (row : List Event) (σ : State) (now s : List ℕ) (f : ℕ) → Track row σ now → fillFrom σ s ≡ From f
       → Gathered row now (sectionNumber s) f (keyOf s)
   unfolding pick joined fillFrom onward continues
@@ -128,15 +128,15 @@ module _ (c : Settings) (b : List ℕ) where
           (record { sections = []; run = none c b row (keyOf s); count = refl; filled = refl; bytes = refl })
       from-zero false q p = further σ t p
 
-  -- a section that goes on with a run that the row ends in has its place after that run
-  pub placed : (row : List Event) (σ : State) (now s : List ℕ) {κ : Key} (xs : List (List ℕ)) → Track row σ now
+  -- a section that goes on with a run that the row ends in has its payload go after that run
+  pub filled-from : (row : List Event) (σ : State) (now s : List ℕ) {κ : Key} (xs : List (List ℕ)) → Track row σ now
       → EndsIn c b row κ xs → InRun c κ (length xs) s → fillFrom σ s ≡ From (length (joined xs))
   unfolding pick both joined fillFrom onward continues
-  placed row σ now s [] t e p = rw (eq-eqb (sectionNumber s) 0 (p .numbered))
-  placed row Idle now s {κ} (x ∷ xs) t e p =
+  filled-from row σ now s [] t e p = rw (eq-eqb (sectionNumber s) 0 (p .numbered))
+  filled-from row Idle now s {κ} (x ∷ xs) t e p =
       let last : keyOf s .last ≡ κ .last = ap (λ (μ : Key). μ .last) (p .agrees) in
       absurd (t κ (x ∷ xs) e (omega arith) (omega (arith, in-order s (p .receivable .sound), p .numbered)))
-  placed row (Open e′ f μ) now s {κ} (x ∷ xs) t e p =
+  filled-from row (Open e′ f μ) now s {κ} (x ∷ xs) t e p =
       let g = t .gathered in
       let same : Same c b μ κ (g .sections) (x ∷ xs) = only c b (g .run) e (omega (arith, g .count, t .some)) (omega arith) in
       let n : sectionNumber s ≡ e′ = p .numbered ∙ ap length (sym (same .sections)) ∙ g .count in
@@ -152,11 +152,11 @@ module _ (c : Settings) (b : List ℕ) where
       → f + length (payload s) ≤ room b → length now ≡ length b
       → Gathered (row ++ (section s ∷ [])) (laid f s now) (sectionNumber s + 1) (f + length (payload s)) (keyOf s)
   grown row now s f k g h size =
-      let piece : InRun c (keyOf s) (length (g .sections)) s =
+      let in-run : InRun c (keyOf s) (length (g .sections)) s =
       record { receivable = k; numbered = sym (g .count); agrees = refl } in
       record {
         sections = g .sections ++ (s ∷ []);
-        run = more c b s (g .run) piece (omega (arith, g .filled));
+        run = more c b s (g .run) in-run (omega (arith, g .filled));
         count = omega (arith, length-more (g .sections) s, g .count);
         filled = omega (arith, joined-length (g .sections) s, g .filled);
         bytes = laid-take f s now (omega (arith, room-bounds b .1)) ∙ rw (g .bytes, joined-more (g .sections) s);

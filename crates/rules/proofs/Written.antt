@@ -74,9 +74,9 @@ module _ (v : Values) where
       let e : length (table3 v) - 4 - 12 ≡ length (v .payload) = omega (arith, size) in
       ap (λ (n : ℕ). take n (v .payload ++ bytesOf 4 (crc32 front))) e ∙ take-at (v .payload) (bytesOf 4 (crc32 front)) (length (v .payload)) refl
 
-  pub places : address (table3 v) ≡ v .address
+  pub address-back : address (table3 v) ≡ v .address
   unfolding address table3 sealed
-  places = refl
+  address-back = refl
 
   pub number-back : sectionNumber (table3 v) ≡ v .number
   unfolding sectionNumber table3 sealed
@@ -185,7 +185,7 @@ written-is-read a llcSnap number last p h k =
     record {
       sound = ap check e ∙ written-sound v l;
       size = ap length e ∙ size v;
-      addressed = ap address e ∙ places v;
+      addressed = ap address e ∙ address-back v;
       clear = ap payloadScramblingControl e ∙ clear-back v l;
       flagged = ap llcSnapFlag e ∙ flagged-back v l;
       numbered = ap sectionNumber e ∙ number-back v;

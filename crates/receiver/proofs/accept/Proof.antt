@@ -1,4 +1,4 @@
--- The place is 0 at number 0, and onward at any other.
+-- The payload goes to 0 at number 0, and onward at any other.
 use mathlib.Core.Path.{_∙_}
 use borrow.Author.Tests.{eq-eqb, ne-eqb}
 use Rattle.wire.specs.Choice.{pick}

@@ -1,4 +1,4 @@
--- An idle state has no place; an open one has it where the section continues the run.
+-- With an idle state a payload goes nowhere; with an open one it goes on where the section continues the run.
 use Rattle.wire.specs.Choice.{pick}
 use Rattle.wire.proofs.Choice.{was}
 use Rattle.rules.specs.Step.{onward, lay}

@@ -1,4 +1,4 @@
--- The place where the CRC_32 begins is the length minus four, and 0 in a shorter slice.
+-- The offset at which the CRC_32 begins is the length minus four, and 0 in a shorter slice.
 use denote.Ref.{now}
 use lib.Seq.{length-take-le}
 use lib.ListN.{length, take}
