@@ -7,9 +7,8 @@ use mathlib.Core.Bool.{Bool, true, false, not, true≢false}
 use mathlib.Core.List.{List, [], _∷_, _++_, append-assoc, append-nil}
 use lib.Dec.{ltb}
 use lib.ListN.{length, replicate, take, drop, length-append, length-take, length-drop}
-use lib.Seq.{getD-take, length-take-le, take-at, drop-at, drop-drop, take-add, take-all, take-append-add}
+use lib.Seq.{length-take-le, take-at, drop-at, drop-drop, take-add, take-all, take-append-add}
 use borrow.Author.Tests.{leb-true, le-leb, ltb-false}
-use Rattle.wire.specs.Bytes.{numberAt}
 use Rattle.wire.specs.Choice.{pick, both, either}
 use Rattle.wire.proofs.Choice.{either-false}
 use Rattle.rules.specs.Section.{sectionLength}
@@ -19,7 +18,7 @@ use Rattle.rules.specs.declared.State.{State}
 use Rattle.rules.specs.declared.State.the-variants.{Idle}
 use Rattle.rules.specs.Recording.{offerLength, offersWithin, offers}
 use Rattle.rules.specs.Step.{Outcome, Does, stepOf}
-use Rattle.rules.proofs.Offer.{offer-long, offer-within, offer-some, offers-more}
+use Rattle.rules.proofs.Offer.{offer-long, offer-within, offer-some, offers-more, section-length-front}
 use Rattle.listing.specs.declared.Walk.{Walk}
 use Rattle.listing.specs.Text.{line}
 use Rattle.wire.specs.Puts.{Puts}
@@ -88,10 +87,6 @@ front-before b rest s e n h l f =
     ∙ take-append-add p rest (e - (s + n))
     ∙ ap (λ (t : List ℕ). p ++ t) f
     ∙ hand-split b s e n h
-
-section-length-front : (n : ℕ) (r : List ℕ) → 3 ≤ n → sectionLength (take n r) ≡ sectionLength r
-unfolding sectionLength numberAt
-section-length-front n r h = rw (getD-take n r 1 0 (omega arith), getD-take n r 2 0 (omega arith))
 
 -- an offer that is whole in the first n bytes is the offer of all of them
 whole-offer : (n : ℕ) (r : List ℕ) → whole (take n r) ≡ true → offerLength r ≡ offerLength (take n r)

@@ -1,12 +1,11 @@
--- An offer is decided by its first 4,098 bytes: section_length stands in the first three and has 12 bits.
+-- An offer is as long as its first three bytes say, or as what is left; each takes a byte or more, so the offers come to an end.
 use Prim.Native.Nat.{ℕ, zero, suc, _+_, _≤_, _<_, min}
 use native.Mathlib.Decide.{decLe}
 use native.Mathlib.Omega.{arith}
-use mathlib.Core.Logic.{_⊎_, inl, inr}
 use mathlib.Core.Path.{_≡_, refl, ap, _∙_}
 use mathlib.Core.List.{List, [], _∷_}
 use lib.ListN.{length, take, drop, length-drop}
-use lib.Seq.{getD-take, length-take-le, take-all}
+use lib.Seq.{getD-take}
 use borrow.Author.Tests.{lt-ltb, le-ltb, ne-eqb}
 use Rattle.wire.specs.Bytes.{numberAt}
 use Rattle.wire.specs.Choice.{pick}
@@ -37,27 +36,10 @@ offer-some r p = go (decLe 3 (length r))
     go (yes h) = omega (arith, offer-long r h)
     go (no h) = omega (arith, offer-short r (omega arith))
 
--- ---- the offer by a window
-sectionLength-below : (r : List ℕ) → sectionLength r < 4096
-unfolding sectionLength
-sectionLength-below r = omega arith
-
-sectionLength-window : (n : ℕ) (r : List ℕ) → 3 ≤ n → sectionLength (take n r) ≡ sectionLength r
+-- section_length stands in the first three bytes
+pub section-length-front : (n : ℕ) (r : List ℕ) → 3 ≤ n → sectionLength (take n r) ≡ sectionLength r
 unfolding sectionLength numberAt
-sectionLength-window n r h = rw (getD-take n r 1 0 (omega arith), getD-take n r 2 0 (omega arith))
-
--- with 4,098 bytes at hand, or all that is left, the offer of the bytes at hand is the offer of all that is left
-pub offer-window : (n : ℕ) (r : List ℕ) → (4098 ≤ n) ⊎ (length r ≤ n) → offerLength (take n r) ≡ offerLength r
-offer-window n r (inr h) = ap offerLength (take-all n r h)
-offer-window n r (inl h) = go (decLe (length r) n)
-  where
-    go : Dec (length r ≤ n) → offerLength (take n r) ≡ offerLength r
-    go (yes k) = ap offerLength (take-all n r k)
-    go (no k) =
-        let l : length (take n r) ≡ n = length-take-le n r (omega arith) in
-        let s : sectionLength (take n r) ≡ sectionLength r = sectionLength-window n r (omega arith) in
-        offer-long (take n r) (omega arith)
-        ∙ omega (arith, l, s, sectionLength-below r, offer-long r (omega arith))
+section-length-front n r h = rw (getD-take n r 1 0 (omega arith), getD-take n r 2 0 (omega arith))
 
 -- ---- the offers one by one
 pub within-more : (k : ℕ) (r : List ℕ) → 0 < length r
