@@ -5,7 +5,7 @@ use std::fmt::Write;
 use std::fs;
 use std::path::PathBuf;
 
-use second::generator::{in_checksum_form, sound, with_byte, OURS};
+use second::generator::{in_checksum_form, sound, with_byte, with_damaged_bit, OURS};
 use second::listing::list;
 use second::recording::{offers, LISTING_OF_01};
 
@@ -54,23 +54,19 @@ fn three_sound_sections() -> Vec<u8> {
 
 /// The same, with one bit of the first payload received wrong.
 fn one_damaged_section() -> Vec<u8> {
-    let mut recording = three_sound_sections();
-    recording[12] ^= 1;
-    recording
+    with_damaged_bit(&three_sound_sections())
 }
 
 /// Sections on which the check answers 0, 13, 15, 24, 16, 17, 18, 19, 12 and 14, in this order: 14
 /// where the recording stops inside a section.
 fn each_number_once() -> Vec<u8> {
     let sound = sound(OURS, 0, 0, b"knut");
-    let mut crc_32_wrong = sound.clone();
-    crc_32_wrong[19] ^= 0x80;
     [
         &sound[..],
         &with_byte(&sound, 0, 0x4C),
         &with_byte(&sound, 1, 0xF0),
         &with_byte(&sound, 1, 0x70),
-        &crc_32_wrong,
+        &with_damaged_bit(&sound),
         &with_byte(&sound, 5, 0xC0),
         &with_byte(&sound, 6, 1),
         &with_byte(&sound, 5, 0xC5),

@@ -76,6 +76,13 @@ pub fn with_byte(section: &[u8], offset: usize, byte: u8) -> Vec<u8> {
     section
 }
 
+/// `section` with one bit after its header received wrong.
+pub fn with_damaged_bit(section: &[u8]) -> Vec<u8> {
+    let mut section = section.to_vec();
+    section[HEADER] ^= 1;
+    section
+}
+
 /// `section` in the checksum form, with this checksum in CRC_32's place.
 pub fn in_checksum_form(section: &[u8], checksum: [u8; CRC_32]) -> Vec<u8> {
     let before = &section[..section.len() - CRC_32];

@@ -3,7 +3,8 @@
 use super::notifications::{any_notification, filler, with_loops};
 use super::rows::{any_run, disturbed_runs};
 use super::{
-    any_sound, faulty, in_checksum_form, seal, set_section_length, sound, with_byte, OURS,
+    any_sound, faulty, in_checksum_form, seal, set_section_length, sound, with_byte,
+    with_damaged_bit, OURS,
 };
 use crate::listing::SETTINGS;
 use crate::random::Random;
@@ -79,8 +80,6 @@ fn uncut() -> Vec<u8> {
 /// Sections on which a listing answers 0, 1, 2, 12 to 22 and 24, in another order.
 fn every_answer() -> Vec<u8> {
     let alone = sound(OURS, 0, 0, b"knut");
-    let mut crc_32_wrong = alone.clone();
-    crc_32_wrong[19] ^= 0x80;
     [
         &alone[..],
         &sound(OURS, 0, 15, b"Foss"),
@@ -90,7 +89,7 @@ fn every_answer() -> Vec<u8> {
         &with_byte(&alone, 0, 0x4C),
         &with_byte(&alone, 1, 0xF0),
         &in_checksum_form(&alone, [0; 4]),
-        &crc_32_wrong,
+        &with_damaged_bit(&alone),
         &with_byte(&alone, 5, 0xC0),
         &with_byte(&alone, 6, 1),
         &with_byte(&alone, 5, 0xC5),

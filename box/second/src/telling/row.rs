@@ -1,6 +1,6 @@
 //! Rows for the receiver.
 
-use crate::generator::{in_checksum_form, sound, with_byte, OURS};
+use crate::generator::{in_checksum_form, sound, with_byte, with_damaged_bit, OURS};
 use crate::listing::SETTINGS;
 use crate::receiver::{Run, Settings};
 use crate::row::Event::{self, Gap, Section};
@@ -59,10 +59,7 @@ fn others(last_section_number: u8, byte_5: u8) -> Event {
 
 fn damaged(event: Event) -> Event {
     match event {
-        Section(mut bytes) => {
-            bytes[12] ^= 1;
-            Section(bytes)
-        }
+        Section(bytes) => Section(with_damaged_bit(&bytes)),
         Gap => Gap,
     }
 }

@@ -1,8 +1,8 @@
 //! Sections for the check.
 
 use crate::generator::{
-    in_checksum_form, seal, set_indicators, set_section_length, sound, with_byte, CHECKSUM_FORM,
-    OURS,
+    in_checksum_form, seal, set_indicators, set_section_length, sound, with_byte, with_damaged_bit,
+    CHECKSUM_FORM, OURS,
 };
 use crate::recording::LISTING_OF_01;
 
@@ -90,11 +90,6 @@ fn with_indicators(section: &[u8], indicators: u8) -> Vec<u8> {
     section
 }
 
-fn damaged(mut section: Vec<u8>) -> Vec<u8> {
-    section[12] ^= 1;
-    section
-}
-
 #[rustfmt::skip] // one row per line
 fn indicators() -> Vec<Row> {
     let bits = |indicators| with_indicators(&with_payload(4), indicators);
@@ -103,10 +98,10 @@ fn indicators() -> Vec<Row> {
         ("B1: bits 01", bits(0b01), 24),
         ("B1: bits 10", bits(0b10), 0),
         ("B1: bits 11", bits(0b11), 15),
-        ("B1: bits 00, CRC_32 wrong", damaged(bits(0b00)), 15),
-        ("B1: bits 01, CRC_32 wrong", damaged(bits(0b01)), 24),
-        ("B1: bits 10, CRC_32 wrong", damaged(bits(0b10)), 16),
-        ("B1: bits 11, CRC_32 wrong", damaged(bits(0b11)), 15),
+        ("B1: bits 00, CRC_32 wrong", with_damaged_bit(&bits(0b00)), 15),
+        ("B1: bits 01, CRC_32 wrong", with_damaged_bit(&bits(0b01)), 24),
+        ("B1: bits 10, CRC_32 wrong", with_damaged_bit(&bits(0b10)), 16),
+        ("B1: bits 11, CRC_32 wrong", with_damaged_bit(&bits(0b11)), 15),
         ("B1: bits 00, without reserved bits", with_byte(&bits(0b00), 1, 0x00), 15),
         ("B1: bits 01, without reserved bits", with_byte(&bits(0b01), 1, 0x40), 24),
         ("B1: bits 11, without reserved bits", with_byte(&bits(0b11), 1, 0xC0), 15),
