@@ -1,4 +1,4 @@
--- Demand 1 of the real contracts: every input is answered with the number of the first row that applies, in document 01's order, and a refusal
+-- Demand 1 of the real contracts: every input is answered with the number of the first row that applies, in the papers' order, and a refusal
 -- hands out nothing, drops the open run and changes no other byte lent. The rows and what they mean are in rules/specs/Meaning.antt, what goes
 -- with each number in rules/specs/After.antt; of the INT and the PES reader specs/Readers.antt speaks.
 use Prim.Native.Nat.{ℕ}

@@ -33,7 +33,7 @@ pub record SentRight (c : Settings) (llcSnap : Bool) (size : ℕ) (u out : List 
   pub back : GivenBack c u (map table3 (written .sections .values))
 
 pub record Demand2 : Type 0 where
-  -- none of 12 to 19 applies exactly to what table 3 writes
+  -- none of 12 to 19 and 24 applies exactly to what table 3 writes
   pub check : Allowed contracts.check
       (λ κs (s, _) z e. Bytes (now s) → (z ≡ 0) ↔ Sound (now s))
   -- where no piece size is given, it is 4,080

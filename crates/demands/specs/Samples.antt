@@ -1,4 +1,5 @@
--- Document 01, 'Samples on the bench': each line marked (P), of the rules themselves, as a row of one table. Proved in proofs/Samples.antt.
+-- Document 01, 'Samples on the bench': each line marked (P), of the rules themselves, as a row of one table; after them document 02, request 2.
+-- Proved in proofs/Samples.antt.
 use Prim.Native.Nat.{ℕ}
 use mathlib.Core.Path.{_≡_}
 use mathlib.Core.List.{List, [], _∷_, flatten}
@@ -39,13 +40,17 @@ answers n r = answersFrom (fresh (replicate n 0)) r
 abbrev pub packet : List ℕ → List ℕ
 packet s = readOf s .answer ∷ readOf s .extension ∷ readOf s .rate ∷ dataOf s
 
--- the answer to an INT section with no loops for the platform 01 02 04, with this hash
-abbrev pub platform : ℕ → ℕ
-platform hash =
-    findingNumber (findingOf (own .address) (sealed (0x4C ∷ 0xB0 ∷ 15 ∷ 0x01 ∷ hash ∷ 0xC1 ∷ 0 ∷ 0 ∷ 0x01 ∷ 0x02 ∷ 0x04 ∷ 0 ∷ 0xF0 ∷ 0 ∷ [])))
+-- the check's answer to 16 bytes with this byte 1, zeros from byte 3 on and so a wrong CRC_32
+abbrev pub indicators : ℕ → ℕ
+indicators byte1 = check (0x3E ∷ byte1 ∷ 13 ∷ replicate 13 0)
+
+-- the answer to an INT section with this byte 1 and no loops for the platform 01 02 04, with this hash
+abbrev pub platform : ℕ → ℕ → ℕ
+platform byte1 hash =
+    findingNumber (findingOf (own .address) (sealed (0x4C ∷ byte1 ∷ 15 ∷ 0x01 ∷ hash ∷ 0xC1 ∷ 0 ∷ 0 ∷ 0x01 ∷ 0x02 ∷ 0x04 ∷ 0 ∷ 0xF0 ∷ 0 ∷ [])))
 
 -- ---- the table
--- what the rules give, and what document 01 says
+-- what the rules give, and what the papers say
 pub record Sample : Type 0 where
   pub gives : List ℕ
   pub says : List ℕ
@@ -80,10 +85,14 @@ samples =
     -- (P) 22 00 31: 43
     ∷ sample (packet (0x22 ∷ 0x00 ∷ 0x31 ∷ [])) (43 ∷ 0 ∷ 0 ∷ [])
     -- (P) platform_id 01 02 04 has hash 07; 06 gives 31
-    ∷ sample (platform 0x07 ∷ platform 0x06 ∷ []) (4 ∷ 31 ∷ [])
+    ∷ sample (platform 0xB0 0x07 ∷ platform 0xB0 0x06 ∷ []) (4 ∷ 31 ∷ [])
+    -- 02, request 2: bits 01: 24, whatever the last four bytes are; bits 00 and 11: 15; bits 10 leave it to the CRC_32
+    ∷ sample (indicators 0x70 ∷ indicators 0x30 ∷ indicators 0xF0 ∷ indicators 0xB0 ∷ []) (24 ∷ 15 ∷ 15 ∷ 16 ∷ [])
+    -- 02, request 2: the INT keeps 15 for bits 01 and 00, and bit 6 is not looked at
+    ∷ sample (platform 0x70 0x07 ∷ platform 0x30 0x07 ∷ platform 0xF0 0x07 ∷ []) (15 ∷ 15 ∷ 4 ∷ [])
     ∷ []
 
--- every row: what the rules give is what document 01 says
+-- every row: what the rules give is what the papers say
 abbrev pub AllRight : List Sample → Type 0
 AllRight [] = Unit {0}
 AllRight (x ∷ xs) = (x .gives ≡ x .says) × AllRight xs

@@ -21,7 +21,7 @@ pub extern "C" fn fossknut_crc_32(s: &[u8]) -> u32
     crc::crc_32(s)
 }
 
-// The first of 12 to 19 that applies to a datagram section, else 0.
+// The first of 12 to 19 and 24, which stands at 15's place, that applies to a datagram section, else 0.
 #[no_mangle]
 pub extern "C" fn fossknut_check(s: &[u8]) -> u8
     ensures { λ r. ⌜ r ≡ check (now (s .entry)) ⌝ }

@@ -12,14 +12,15 @@ use lib.Dec.{eqb, leb}
 use borrow.Author.Tests.{eq-eqb, eqb-true, le-leb, leb-true, not-true}
 use Rattle.wire.specs.Bytes.{bit, byteAt, Bytes}
 use Rattle.wire.specs.Choice.{both, either, first, firstOf, Line, pick, without}
+use Rattle.wire.specs.Meaning.{_means_}
 use Rattle.wire.specs.Part.{Part}
 use Rattle.wire.proofs.Choice.{both-true, firstOf-past, never, not-first}
 use Rattle.wire.proofs.Meaning.{gives-last, gives-row, or-else, orElse, Tells, tells-eq, tells-not}
 use Rattle.rules.specs.declared.Address.{Address}
-use Rattle.rules.specs.Check.{sharedRefusal, sharedLines, formLines, orderLines, wrongSyntax}
+use Rattle.rules.specs.Check.{checksumForm, sharedRefusal, sharedLines, formLines, orderLines, wrongSyntax}
 use Rattle.rules.specs.Section.{sectionSyntaxIndicator}
 use Rattle.rules.proofs.Check.{shared-numbered}
-use Rattle.rules.proofs.Meaning.{gives-refusal}
+use Rattle.rules.proofs.Meaning.{gives-refusal, Place15}
 use Rattle.notification_rules.specs.declared.Finding.{Finding}
 use Rattle.notification_rules.specs.declared.Finding.the-variants.{Found, Nobody, Refused}
 use Rattle.notification_rules.specs.Cut.{Cut, cutOf, every}
@@ -161,10 +162,10 @@ unfolding either
 either-left true h = h
 either-left false h = h
 
--- private_indicator is not asked for
-syntax : (s : List ℕ) → Tells (wrongSyntax notificationForm s) (bit 7 (byteAt s 1) ≢ 1)
-unfolding wrongSyntax sectionSyntaxIndicator both
-syntax s = either-left _ (tells-not _ (tells-eq (bit 7 (byteAt s 1)) 1))
+-- private_indicator is not looked at, so that 24 never applies
+syntax : (s : List ℕ) → Place15 notificationForm s (15 means (bit 7 (byteAt s 1) ≢ 1) ∷ [])
+unfolding checksumForm wrongSyntax sectionSyntaxIndicator both first
+syntax s = record { gives = λ g. gives-row _ 15 (either-left _ (tells-not _ (tells-eq (bit 7 (byteAt s 1)) 1))) (g refl) }
 
 action : (s : List ℕ) → Tells (otherAction s) (byteAt s 3 ≢ 0x01)
 unfolding otherAction actionType
@@ -252,10 +253,10 @@ module _ (device : Address) (s : List ℕ) (b : Bytes s) where
       go false h = (λ e. absurd (never e), λ n. absurd (n (h .0 refl)))
 
 pub notification-means : NotificationMeans
-unfolding orElse sharedLines formLines orderLines platformLines loopLines wrongSyntax sectionSyntaxIndicator
+unfolding orElse sharedLines formLines orderLines platformLines loopLines
 notification-means device s b n =
     rw (number-finding device s b)
-    (gives-refusal notificationForm s _ _ _ (syntax s) (λ h _.
+    (gives-refusal notificationForm s _ _ (syntax s) (λ h _.
     gives-row _ 30 (action s) (λ e30.
     gives-row _ 31 (hash s) (λ e31.
     gives-row _ 32 (unfilled-tells device s b) (λ e32.

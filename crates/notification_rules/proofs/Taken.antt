@@ -15,7 +15,7 @@ use Rattle.wire.proofs.Bytes.{length-bytesOf, numberAt-bytesOf}
 use Rattle.wire.proofs.Choice.{yes-both, not-either, not-first}
 use Rattle.rules.specs.Crc.{crc32}
 use Rattle.rules.specs.Section.{sealed, tableId, sectionSyntaxIndicator, sectionLength, currentNextIndicator, sectionNumber, lastSectionNumber}
-use Rattle.rules.specs.Check.{tooShort, otherTable, wrongLength, wrongSyntax, wrongCrc, notCurrent, outOfOrder, formLines, orderLines, sharedLines}
+use Rattle.rules.specs.Check.{tooShort, otherTable, wrongLength, checksumForm, wrongSyntax, wrongCrc, notCurrent, outOfOrder, formLines, orderLines, sharedLines}
 use Rattle.rules.proofs.Written.{sealed-length, sealed-right}
 use Rattle.notification_rules.specs.Cut.{Cut, cutOf, every, odd}
 use Rattle.notification_rules.specs.Loop.{actionType, platformIdHash, content, tag, bodyLength, descriptorSize, loopSize, loopCut, filled}
@@ -240,6 +240,10 @@ module _ (n : Notification) (t : Conforms n) where
       let m : sectionLength s ≤ 4093 = omega (arith, l, t .size) in
       sym (not-either _ (le-ltb 4093 _ m) (ap not (sym (eq-eqb _ _ l))))
 
+  no24 : checksumForm notificationForm s ≡ false
+  unfolding checksumForm both
+  no24 = refl
+
   no15 : wrongSyntax notificationForm s ≡ false
   unfolding wrongSyntax sectionSyntaxIndicator notificationWritten sealed headWritten both
   no15 =
@@ -279,6 +283,6 @@ module _ (n : Notification) (t : Conforms n) where
 pub written-is-taken : (n : Notification) → Conforms n → refusal (notificationWritten n) ≡ 0
 unfolding refusal sharedLines formLines orderLines platformLines loopLines firstOf
 written-is-taken n t =
-    sym (not-first 12 _ (no12 n t) (not-first 13 _ (no13 n t) (not-first 14 _ (no14 n t) (not-first 15 _ (no15 n t)
-    (not-first 16 _ (no16 n t) (not-first 17 _ (no17 n t) (not-first 18 _ (no18 n t) (not-first 30 _ (no30 n t)
-    (not-first 31 _ (no31 n t) (not-first 32 _ (no32 n t) (not-first 33 _ (no33 n t) refl)))))))))))
+    sym (not-first 12 _ (no12 n t) (not-first 13 _ (no13 n t) (not-first 14 _ (no14 n t) (not-first 24 _ (no24 n t)
+    (not-first 15 _ (no15 n t) (not-first 16 _ (no16 n t) (not-first 17 _ (no17 n t) (not-first 18 _ (no18 n t)
+    (not-first 30 _ (no30 n t) (not-first 31 _ (no31 n t) (not-first 32 _ (no32 n t) (not-first 33 _ (no33 n t) refl))))))))))))

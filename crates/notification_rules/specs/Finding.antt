@@ -20,7 +20,7 @@ use Rattle.notification_rules.specs.Cut.{Cut, isNil, every, odd}
 use Rattle.notification_rules.specs.Loop.{actionType, platformIdHash, loopCut, loopsOf, content, descriptorItems, filled, tag, bodyLength, Pair, pairsOf}
 use Rattle.notification_rules.specs.Target.{rightLength, locationOf, Location, nowhere, somewhere, answers, firstPair}
 
--- 12 to 18 as for every table; bit 6 of byte 1 is not looked at
+-- 12 to 18 as for every table; bit 6 of byte 1 is not looked at, so 24 never applies
 abbrev pub notificationForm : Form
 notificationForm = record { fewest = 18; table = 0x4C; private = false }
 

@@ -9,7 +9,7 @@ use lib.Bits.{bitXor}
 use Rattle.wire.specs.Bytes.{bit, byteAt, Bytes}
 use Rattle.wire.specs.Meaning.{FirstThat, otherwise, Row, _means_}
 use Rattle.rules.specs.declared.Address.{Address}
-use Rattle.rules.specs.Meaning.{sharedRows}
+use Rattle.rules.specs.Meaning.{rows12to14, rows16to18}
 use Rattle.notification_rules.specs.Format.{answerTo, bodyWritten, contentWritten, Descriptor, Loop, loopsWritten, tagOf, Written}
 use Rattle.notification_rules.specs.Finding.{findingNumber, findingOf}
 
@@ -49,18 +49,20 @@ pub record Finds (device : Address) (s : List ℕ) : Type 0 where
   pub written : Written s
   pub found : answerTo device (written .value) .number ≡ 3
 
--- ---- 12 to 18 as for the datagram section, private_indicator not looked at; byte 3 is action_type, byte 4 platform_id_hash, bytes 8 to 10 are
--- platform_id; 4 is nobody
+-- ---- 12 to 18 as for the datagram section, but 15 is of section_syntax_indicator alone; byte 3 is action_type, byte 4 platform_id_hash,
+-- bytes 8 to 10 are platform_id; 4 is nobody
 abbrev pub notificationRows : Address → List ℕ → List Row
 notificationRows device s =
-    sharedRows 18 0x4C (bit 7 (byteAt s 1) ≢ 1) s
+    rows12to14 18 0x4C s
+    ++ (15 means (bit 7 (byteAt s 1) ≢ 1)
+    ∷ (rows16to18 s
     ++ (30 means (byteAt s 3 ≢ 0x01)
     ∷ 31 means (byteAt s 4 ≢ bitXor (bitXor (byteAt s 8) (byteAt s 9)) (byteAt s 10))
     ∷ 32 means (¬ Filled s)
     ∷ 33 means (HoldsOther s)
     ∷ 3 means (Finds device s)
     ∷ 4 means otherwise
-    ∷ [])
+    ∷ [])))
 
 abbrev pub NotificationMeans : Type 0
 NotificationMeans =

@@ -20,6 +20,7 @@ pub mod Runs
 pub mod Sections
 pub mod Send
 pub mod Sound
+pub mod Split
 pub mod Tested
 pub mod Track
 pub mod Written

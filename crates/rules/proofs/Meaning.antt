@@ -1,15 +1,16 @@
 -- Each line of a table tests what its row means, so the first line that applies has the number of the first row that does.
 use Prim.Native.Nat.{ℕ, zero, suc, _+_, _*_, _-_, _≤_, _<_, min}
+use native.Mathlib.Decide.{ℕ-discrete}
 use native.Mathlib.Omega.{arith}
 use mathlib.Core.Path.{_≡_, refl, sym, ap, subst, _∙_}
-use mathlib.Core.Logic.{_≢_}
+use mathlib.Core.Logic.{_≢_, _⊎_, inl, inr, ⊎-elim}
 use mathlib.Core.List.{List, [], _∷_, _++_, flatten}
 use mathlib.Core.Bool.{Bool, true, false, not, Bool·beq}
 use lib.ListN.{length, take}
 use lib.Dec.{eqb, leb, ltb}
 use borrow.Author.Tests.{eqb-false, eqb-true, leb-false, leb-true, lt-leb, ltb-false, not-false, not-true}
 use Rattle.wire.specs.Bytes.{bit, bits, byteAt, numberAt}
-use Rattle.wire.specs.Choice.{pick, both, Line, first, firstOf, without}
+use Rattle.wire.specs.Choice.{pick, both, either, Line, first, firstOf, without}
 use Rattle.wire.specs.Meaning.{Row, _means_}
 use Rattle.wire.proofs.Choice.{both-true, never, not-first}
 use Rattle.wire.proofs.Meaning.{Gives, gives-last, gives-row, or-else, or-zero, orElse, Tells, tells-both, tells-either, tells-eq, tells-le, tells-lt, tells-not, tells-outside}
@@ -19,9 +20,9 @@ use Rattle.rules.specs.declared.Key.{Key}
 use Rattle.rules.specs.declared.Settings.{Settings}
 use Rattle.rules.specs.declared.State.{State}
 use Rattle.rules.specs.declared.State.the-variants.{Idle, Open}
-use Rattle.rules.specs.Check.{addressScrambled, check, checkLines, datagramForm, sharedRefusal, sharedLines, formLines, notCurrent, orderLines, otherTable, outOfOrder, tooShort, wrongCrc, wrongLength, wrongSyntax}
+use Rattle.rules.specs.Check.{addressScrambled, check, checkLines, checksumForm, datagramForm, sharedRefusal, sharedLines, formLines, notCurrent, orderLines, otherTable, outOfOrder, tooShort, wrongCrc, wrongLength, wrongSyntax}
 use Rattle.rules.specs.Crc.{crc32}
-use Rattle.rules.specs.Meaning.{CheckMeans, CutInto, filledBefore, GoesOn, GoodState, DefaultMeans, ReceiverMeans, SameAddress, sectionRows, SenderMeans, sharedRows}
+use Rattle.rules.specs.Meaning.{CheckMeans, CutInto, filledBefore, GoesOn, GoodState, DefaultMeans, InChecksumForm, ReceiverMeans, SameAddress, sectionRows, SenderMeans, rows12to14, rows16to18}
 use Rattle.rules.specs.Section.{address, addressScramblingControl, crcField, currentNextIndicator, lastSectionNumber, llcSnapFlag, payload, payloadScramblingControl, privateIndicator, sectionLength, sectionNumber, sectionSyntaxIndicator, tableId}
 use Rattle.rules.specs.Step.{ownLines, continues, From, goodRun, goodState, keep, keyOf, lay, Nowhere, numberOf, onward, ours, Outcome, outcome, overLimit, payloadScrambled, fillFrom, refuse, refuseFirst, room, sameKey, setupLines, stepOf, finish}
 use Rattle.rules.proofs.Compared.{compares-last}
@@ -30,28 +31,90 @@ use Rattle.rules.specs.Send.{sectionCount, sections, sendingNumber, send
 use Rattle.rules.proofs.Send.{cut, one-cut, sections-bytes}
 use Rattle.rules.proofs.Sound.{payload-length}
 
--- ---- 12 to 18, for any table
-pub gives-refusal : (f : Form) (s : List ℕ) (p15 : Type 0) (m : ℕ) (rest : List Row) → Tells (wrongSyntax f s) p15
-    → (sharedRefusal f s ≡ 0 → f .fewest ≤ length s → Gives m rest) → Gives (orElse (sharedLines f s) m) (sharedRows (f .fewest) (f .table) p15 s ++ rest)
+-- ---- 12 to 18 and 24, for any table
+-- the rows at 15's place give the numbers of the two lines there
+pub record Place15 (f : Form) (s : List ℕ) (syntax : List Row) : Type 1 where
+  pub gives : {k : ℕ} {later : List Row} → (checksumForm f s ≡ false → wrongSyntax f s ≡ false → Gives k later)
+      → Gives (first (checksumForm f s) 24 (first (wrongSyntax f s) 15 k)) (syntax ++ later)
+
+pub gives-refusal : {syntax : List Row} (f : Form) (s : List ℕ) (m : ℕ) (rest : List Row) → Place15 f s syntax
+    → (sharedRefusal f s ≡ 0 → f .fewest ≤ length s → Gives m rest) → Gives (orElse (sharedLines f s) m) (rows12to14 (f .fewest) (f .table) s ++ (syntax ++ (rows16to18 s ++ rest)))
 unfolding orElse sharedRefusal sharedLines formLines orderLines firstOf tooShort otherTable wrongLength wrongCrc notCurrent outOfOrder tableId sectionLength crcField currentNextIndicator sectionNumber lastSectionNumber
-gives-refusal f s p15 m rest h15 g =
+gives-refusal f s m rest place g =
     gives-row _ 12 (tells-lt (length s) (f .fewest)) (λ e12.
     gives-row _ 13 (tells-not _ (tells-eq (byteAt s 0) (f .table))) (λ e13.
     gives-row _ 14 (tells-either _ _ (tells-lt 4093 (sectionLength s)) (tells-not _ (tells-eq (sectionLength s + 3) (length s)))) (λ e14.
-    gives-row _ 15 h15 (λ e15.
+    place .gives (λ e24 e15.
     gives-row _ 16 (tells-not _ (tells-eq (numberAt 4 s (length s - 4)) (crc32 (take (length s - 4) s)))) (λ e16.
     gives-row _ 17 (tells-eq (bit 0 (byteAt s 5)) 0) (λ e17.
     gives-row _ 18 (tells-lt (byteAt s 7) (byteAt s 6)) (λ e18.
-    g (sym (not-first 12 _ e12 (not-first 13 _ e13 (not-first 14 _ e14 (not-first 15 _ e15 (not-first 16 _ e16 (not-first 17 _ e17 (not-first 18 _ e18 refl))))))))
+    g
+    (sym
+    (not-first 12 _ e12 (not-first 13 _ e13 (not-first 14 _ e14 (not-first 24 _ e24 (not-first 15 _ e15
+    (not-first 16 _ e16 (not-first 17 _ e17 (not-first 18 _ e18 refl)))))))))
     (ltb-false _ _ e12))))))))
 
--- ---- the datagram section: 12 to 19
+-- ---- 24 and 15
+-- two bits: what document 01 calls 15 is the checksum form or equal bits, and never both
+pub record Indicators (x y : ℕ) : Type 0 where
+  pub one : (x ≢ 1) ⊎ (y ≢ 0) → ((x ≡ 0) × (y ≡ 1)) ⊎ (x ≡ y)
+  pub checksum : (x ≡ 0) × (y ≡ 1) → (x ≢ 1) ⊎ (y ≢ 0)
+  pub equal : x ≡ y → (x ≢ 1) ⊎ (y ≢ 0)
+  pub apart : x ≡ y → (x ≡ 0) × (y ≡ 1) → ⊥
+
+pub indicators : (x y : ℕ) → x < 2 → y < 2 → Indicators x y
+indicators x y h k =
+    record {
+      one = one;
+      checksum = λ c. inl (λ e. omega (arith, c .0));
+      equal = λ e. go e (ℕ-discrete x 1);
+      apart = λ e c. omega (arith, c .0, c .1);
+    }
+  where
+    go : x ≡ y → Dec (x ≡ 1) → (x ≢ 1) ⊎ (y ≢ 0)
+    go e (yes p) = inr (λ z. omega arith)
+    go e (no n) = inl n
+
+    neither : (x ≢ 1) ⊎ (y ≢ 0) → (x ≡ y → ⊥) → (x ≡ 0) × (y ≡ 1)
+    neither (inl n) d = (omega arith, omega arith)
+    neither (inr n) d = (omega arith, omega arith)
+
+    one : (x ≢ 1) ⊎ (y ≢ 0) → ((x ≡ 0) × (y ≡ 1)) ⊎ (x ≡ y)
+    one o = decide (ℕ-discrete x y)
+      where
+        decide : Dec (x ≡ y) → ((x ≡ 0) × (y ≡ 1)) ⊎ (x ≡ y)
+        decide (yes e) = inr e
+        decide (no d) = inl (neither o d)
+
+pub indicators-of : (s : List ℕ) → Indicators (bit 7 (byteAt s 1)) (bit 6 (byteAt s 1))
+indicators-of s = indicators _ _ (omega arith) (omega arith)
+
+-- the line of 15 tells equal bits where that of 24 does not apply
+datagram-syntax : (s : List ℕ) → Place15 datagramForm s (24 means InChecksumForm s ∷ 15 means (bit 7 (byteAt s 1) ≡ bit 6 (byteAt s 1)) ∷ [])
+unfolding checksumForm wrongSyntax sectionSyntaxIndicator privateIndicator both
+datagram-syntax s =
+    record {
+      gives = λ g.
+          gives-row _ 24 checksum (λ e24.
+          gives-row _ 15 (λ p. ⊎-elim (λ c. absurd (never (sym e24 ∙ checksum .1 c))) (λ e. e) (two .one (lumped .0 p)), λ e. lumped .1 (two .equal e))
+          (g e24));
+    }
+  where
+    two : Indicators (bit 7 (byteAt s 1)) (bit 6 (byteAt s 1))
+    two = indicators-of s
+
+    checksum : Tells (both (eqb (bit 7 (byteAt s 1)) 0) (eqb (bit 6 (byteAt s 1)) 1)) (InChecksumForm s)
+    checksum = tells-both _ _ (tells-eq (bit 7 (byteAt s 1)) 0) (tells-eq (bit 6 (byteAt s 1)) 1)
+
+    lumped : Tells (either (not (eqb (bit 7 (byteAt s 1)) 1)) (not (eqb (bit 6 (byteAt s 1)) 0))) ((bit 7 (byteAt s 1) ≢ 1) ⊎ (bit 6 (byteAt s 1) ≢ 0))
+    lumped = tells-either _ _ (tells-not _ (tells-eq (bit 7 (byteAt s 1)) 1)) (tells-not _ (tells-eq (bit 6 (byteAt s 1)) 0))
+
+-- ---- the datagram section: 12 to 19 and 24
 gives-check : (s : List ℕ) (m : ℕ) (rest : List Row) → (16 ≤ length s → Gives m rest)
     → Gives (orElse (checkLines s) m) (sectionRows s ++ rest)
-unfolding orElse checkLines sharedLines formLines orderLines wrongSyntax sectionSyntaxIndicator privateIndicator both addressScrambled addressScramblingControl
+unfolding orElse checkLines sharedLines formLines orderLines addressScrambled addressScramblingControl
 gives-check s m rest g =
-    gives-refusal datagramForm s _ (first (addressScrambled s) 19 m) _
-    (tells-either _ _ (tells-not _ (tells-eq (bit 7 (byteAt s 1)) 1)) (tells-not _ (tells-eq (bit 6 (byteAt s 1)) 0)))
+    gives-refusal datagramForm s (first (addressScrambled s) 19 m) _ (datagram-syntax s)
     (λ _ l. gives-row _ 19 (tells-not _ (tells-eq (bits 3 2 (byteAt s 5)) 0)) (λ _. g l))
 
 pub check-means : CheckMeans

@@ -17,7 +17,7 @@ use Rattle.rules.specs.Step.{ownRefusal, ownLines, overLimit, payloadScr
 use Rattle.rules.specs.Check.{formLines, orderLines, sharedRefusal, sharedLines, checkLines, check}
 use Rattle.rules.specs.declared.Form.{Form}
 
--- ---- a section of a form to which none of 12 to 18 applies
+-- ---- a section of a form to which none of 12 to 18 and 24 applies
 pub record Unrefused (f : Form) (s : List ℕ) : Type 0 where
   pub long : f .fewest ≤ length s
   pub table : tableId s ≡ f .table
@@ -36,7 +36,8 @@ unrefused f s p =
     let t12 = none-first _ _ (omega arith) (parts .0) in
     let t13 = none-first _ _ (omega arith) (t12 .1) in
     let t14 = none-first _ _ (omega arith) (t13 .1) in
-    let t15 = none-first _ _ (omega arith) (t14 .1) in
+    let t24 = none-first _ _ (omega arith) (t14 .1) in
+    let t15 = none-first _ _ (omega arith) (t24 .1) in
     let t16 = none-first _ _ (omega arith) (parts .1) in
     let t17 = none-first _ _ (omega arith) (t16 .1) in
     let t18 = none-first _ _ (omega arith) (t17 .1) in

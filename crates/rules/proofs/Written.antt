@@ -10,11 +10,11 @@ use lib.Dec.{eqb}
 use lib.Seq.{take-at}
 use borrow.Author.Tests.{eq-eqb, le-ltb}
 use Rattle.wire.specs.Bytes.{bits, byteAt, bytesOf, numberAt}
-use Rattle.wire.specs.Choice.{pick, both, firstOf}
+use Rattle.wire.specs.Choice.{pick, both, either, firstOf}
 use Rattle.wire.proofs.Bytes.{length-bytesOf, numberAt-bytesOf}
 use Rattle.wire.proofs.Choice.{not-either, not-first}
 use Rattle.rules.specs.declared.Address.{Address}
-use Rattle.rules.specs.Check.{addressScrambled, check, checkLines, datagramForm, sharedLines, formLines, notCurrent, orderLines, otherTable, outOfOrder, tooShort, wrongCrc, wrongLength, wrongSyntax}
+use Rattle.rules.specs.Check.{addressScrambled, check, checkLines, checksumForm, datagramForm, sharedLines, formLines, notCurrent, orderLines, otherTable, outOfOrder, tooShort, wrongCrc, wrongLength, wrongSyntax}
 use Rattle.rules.specs.Crc.{crc32}
 use Rattle.rules.specs.Section.{address, addressScramblingControl, crcField, currentNextIndicator, header, lastSectionNumber, llcSnapFlag, payload, payloadScramblingControl, privateIndicator, sealed, sectionLength, sectionNumber, sectionOf, sectionSyntaxIndicator, tableId}
 use Rattle.rules.specs.Sound.{Limits, table3, Values}
@@ -114,13 +114,21 @@ module _ (v : Values) where
         let m : sectionLength (table3 v) ≤ 4093 = omega (arith, long, l .size) in
         sym (not-either _ (le-ltb 4093 _ m) (ap not (sym (eq-eqb _ _ e))))
 
+    syntax-back : sectionSyntaxIndicator (table3 v) ≡ 1
+    unfolding sectionSyntaxIndicator table3 sealed
+    syntax-back = omega (arith, l .reserved1)
+
+    private-back : privateIndicator (table3 v) ≡ 0
+    unfolding privateIndicator table3 sealed
+    private-back = omega (arith, l .reserved1)
+
+    no24 : checksumForm datagramForm (table3 v) ≡ false
+    unfolding checksumForm both
+    no24 = rw syntax-back
+
     no15 : wrongSyntax datagramForm (table3 v) ≡ false
-    unfolding wrongSyntax sectionSyntaxIndicator privateIndicator table3 sealed both
-    no15 =
-        let x : ℕ = 128 + 16 * v .reserved1 + bits 11 8 (length (v .payload) + 13) in
-        let e7 : x / 128 % 2 ≡ 1 = omega (arith, l .reserved1) in
-        let e6 : x / 64 % 2 ≡ 0 = omega (arith, l .reserved1) in
-        sym (not-either _ (ap not (eq-eqb _ 1 e7)) (ap not (sym (eq-eqb _ 0 e6))))
+    unfolding wrongSyntax both either
+    no15 = rw (syntax-back, private-back)
 
     no16 : wrongCrc (table3 v) ≡ false
     unfolding table3
@@ -141,8 +149,8 @@ module _ (v : Values) where
     pub written-sound : check (table3 v) ≡ 0
     unfolding check checkLines sharedLines formLines orderLines firstOf
     written-sound =
-        sym (not-first 12 _ no12 (not-first 13 _ no13 (not-first 14 _ no14 (not-first 15 _ no15
-        (not-first 16 _ no16 (not-first 17 _ no17 (not-first 18 _ no18 (not-first 19 _ no19 refl))))))))
+        sym (not-first 12 _ no12 (not-first 13 _ no13 (not-first 14 _ no14 (not-first 24 _ no24 (not-first 15 _ no15
+        (not-first 16 _ no16 (not-first 17 _ no17 (not-first 18 _ no18 (not-first 19 _ no19 refl)))))))))
 
     pub clear-back : payloadScramblingControl (table3 v) ≡ v .scrambling
     unfolding payloadScramblingControl

@@ -1,4 +1,5 @@
--- Whether a section is sound: document 01, 'The receiver', numbers 12 to 19; 'The INT section', numbers 12 to 18.
+-- Whether a section is sound: document 01, 'The receiver', numbers 12 to 19; 'The INT section', numbers 12 to 18; document 02, request 2,
+-- number 24.
 use Prim.Native.Nat.{ℕ, _+_}
 use mathlib.Core.List.{List, [], _∷_, _++_}
 use mathlib.Core.Bool.{Bool, true, not}
@@ -21,6 +22,10 @@ otherTable f s = not (eqb (tableId s) (f .table))
 unfoldable pub wrongLength : List ℕ → Bool
 wrongLength s = either (ltb 4093 (sectionLength s)) (not (eqb (sectionLength s + 3) (length s)))
 
+-- 24: section_syntax_indicator is 0 and private_indicator 1, where the table asks for it: the checksum form of ISO/IEC 13818-6
+unfoldable pub checksumForm : Form → List ℕ → Bool
+checksumForm f s = both (f .private) (both (eqb (sectionSyntaxIndicator s) 0) (eqb (privateIndicator s) 1))
+
 -- 15: section_syntax_indicator is not 1, or private_indicator not 0 where the table asks for it
 unfoldable pub wrongSyntax : Form → List ℕ → Bool
 wrongSyntax f s = either (not (eqb (sectionSyntaxIndicator s) 1)) (both (f .private) (not (eqb (privateIndicator s) 0)))
@@ -41,19 +46,20 @@ outOfOrder s = ltb (lastSectionNumber s) (sectionNumber s)
 unfoldable pub addressScrambled : List ℕ → Bool
 addressScrambled s = not (eqb (addressScramblingControl s) 0)
 
--- what is seen without the CRC_32
+-- what is seen without the CRC_32: 24 stands at 15's place, and leaves to it the indicators that are equal
 unfoldable pub formLines : Form → List ℕ → List Line
-formLines f s = line 12 (tooShort f s) ∷ line 13 (otherTable f s) ∷ line 14 (wrongLength s) ∷ line 15 (wrongSyntax f s) ∷ []
+formLines f s =
+    line 12 (tooShort f s) ∷ line 13 (otherTable f s) ∷ line 14 (wrongLength s) ∷ line 24 (checksumForm f s) ∷ line 15 (wrongSyntax f s) ∷ []
 
 -- what is believed only with a right CRC_32
 unfoldable pub orderLines : List ℕ → List Line
 orderLines s = line 17 (notCurrent s) ∷ line 18 (outOfOrder s) ∷ []
 
--- the lines that every table shares: 12 to 18
+-- the lines that every table shares: 12 to 18, and 24
 unfoldable pub sharedLines : Form → List ℕ → List Line
 sharedLines f s = formLines f s ++ (line 16 (wrongCrc s) ∷ orderLines s)
 
--- the first of 12 to 18 that applies to a section of this form, else 0
+-- the first of these that applies to a section of this form, else 0
 unfoldable pub sharedRefusal : Form → List ℕ → ℕ
 sharedRefusal f s = firstOf (sharedLines f s)
 
@@ -61,10 +67,10 @@ sharedRefusal f s = firstOf (sharedLines f s)
 abbrev pub datagramForm : Form
 datagramForm = record { fewest = 16; table = 0x3E; private = true }
 
--- the datagram section's lines: 12 to 19
+-- the datagram section's lines: 12 to 19, and 24
 unfoldable pub checkLines : List ℕ → List Line
 checkLines s = sharedLines datagramForm s ++ (line 19 (addressScrambled s) ∷ [])
 
--- the first of 12 to 19 that applies to a datagram section, else 0
+-- the first of these that applies to a datagram section, else 0
 unfoldable pub check : List ℕ → ℕ
 check s = firstOf (checkLines s)

@@ -1,5 +1,5 @@
--- What each number means, in document 01's order and words: 'The receiver', 'The sender'. By bytes, bits and lengths, with none of the
--- receiver's own tests. Theorems, shown in proofs/Meaning.antt.
+-- What each number means, in the papers' order and words: document 01, 'The receiver', 'The sender'; document 02, request 2. By bytes, bits
+-- and lengths, with none of the receiver's own tests. Theorems, shown in proofs/Meaning.antt and, of request 2, proofs/Split.antt.
 use Prim.Native.Nat.{ℕ, zero, suc, _+_, _*_, _-_, _%_, _^_, _≤_, _<_, min}
 use mathlib.Core.Path.{_≡_}
 use mathlib.Core.Logic.{_↔_, _≢_, _⊎_}
@@ -23,29 +23,59 @@ use Rattle.rules.specs.Step.{numberOf, stepOf}
 abbrev pub lengthStated : List ℕ → ℕ
 lengthStated s = numberAt 2 s 1 % 2 ^ 12
 
--- 12 to 18, which the tables share: the fewest bytes of a section, its table_id, and what 15 means
-abbrev pub sharedRows : ℕ → ℕ → Type 0 → List ℕ → List Row
-sharedRows fewest table syntax s =
+-- 12 to 14, which the tables share: the fewest bytes of a section, and its table_id
+abbrev pub rows12to14 : ℕ → ℕ → List ℕ → List Row
+rows12to14 fewest table s =
     12 means (length s < fewest)
     ∷ 13 means (byteAt s 0 ≢ table)
     ∷ 14 means ((4093 < lengthStated s) ⊎ (lengthStated s + 3 ≢ length s))
-    ∷ 15 means syntax
-    ∷ 16 means (numberAt 4 s (length s - 4) ≢ crc32 (take (length s - 4) s))
+    ∷ []
+
+-- 16 to 18, which the tables share
+abbrev pub rows16to18 : List ℕ → List Row
+rows16to18 s =
+    16 means (numberAt 4 s (length s - 4) ≢ crc32 (take (length s - 4) s))
     ∷ 17 means (bit 0 (byteAt s 5) ≡ 0)
     ∷ 18 means (byteAt s 7 < byteAt s 6)
     ∷ []
 
--- the datagram section: section_syntax_indicator and private_indicator; address scrambling
+-- and 19, address scrambling, of the datagram section
+abbrev pub rows16to19 : List ℕ → List Row
+rows16to19 s = rows16to18 s ++ (19 means (bits 3 2 (byteAt s 5) ≢ 0) ∷ [])
+
+-- the checksum form: section_syntax_indicator 0, private_indicator 1
+abbrev pub InChecksumForm : List ℕ → Type 0
+InChecksumForm s = (bit 7 (byteAt s 1) ≡ 0) × (bit 6 (byteAt s 1) ≡ 1)
+
+-- document 02, request 2: 24 for the checksum form, at 15's place; 15 for the two cases where both bits are equal
 abbrev pub sectionRows : List ℕ → List Row
 sectionRows s =
-    sharedRows 16 0x3E ((bit 7 (byteAt s 1) ≢ 1) ⊎ (bit 6 (byteAt s 1) ≢ 0)) s
-    ++ (19 means (bits 3 2 (byteAt s 5) ≢ 0) ∷ [])
+    rows12to14 16 0x3E s
+    ++ (24 means InChecksumForm s
+    ∷ 15 means (bit 7 (byteAt s 1) ≡ bit 6 (byteAt s 1))
+    ∷ rows16to19 s)
 
 abbrev pub checkRows : List ℕ → List Row
 checkRows s = sectionRows s ++ (0 means otherwise ∷ [])
 
 abbrev pub CheckMeans : Type 0
 CheckMeans = (s : List ℕ) (n : ℕ) → (check s ≡ n) ↔ FirstThat n (checkRows s)
+
+-- ---- what request 2 changed, and what not
+-- document 01's table: 15 for section_syntax_indicator not 1, or private_indicator not 0
+abbrev pub rowsOf01 : List ℕ → List Row
+rowsOf01 s =
+    rows12to14 16 0x3E s
+    ++ (15 means ((bit 7 (byteAt s 1) ≢ 1) ⊎ (bit 6 (byteAt s 1) ≢ 0))
+    ∷ (rows16to19 s
+    ++ (0 means otherwise
+    ∷ [])))
+
+-- the check answers what document 01's table does, m, but 24 exactly where m is 15 and the section in the checksum form
+abbrev pub FifteenSplits : Type 0
+FifteenSplits =
+    (s : List ℕ) (n : ℕ)
+    → (check s ≡ n) ↔ ((m : ℕ) × FirstThat m (rowsOf01 s) × FirstThat n (24 means ((m ≡ 15) × InChecksumForm s) ∷ m means otherwise ∷ []))
 
 -- ---- settings and states
 pub record Good (c : Settings) : Type 0 where

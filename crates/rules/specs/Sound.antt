@@ -58,6 +58,6 @@ pub record Sound (s : List ℕ) : Type 0 where
   pub limits : Limits values
   pub is : s ≡ table3 values
 
--- none of 12 to 19 applies exactly to a sound section: a theorem, shown in proofs/Exactly.antt
+-- none of 12 to 19 and 24 applies exactly to a sound section: a theorem, shown in proofs/Exactly.antt
 abbrev pub SoundExactly : Type 0
 SoundExactly = (s : List ℕ) → Bytes s → (check s ≡ 0) ↔ Sound s

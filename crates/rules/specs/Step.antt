@@ -137,7 +137,7 @@ unfoldable pub lay : Fill → List ℕ → List ℕ → Outcome
 lay Nowhere s b = refuse 22 b
 lay (From f) s b = pick (leb (f + length (payload s)) (room b)) (keep f s b) (refuse 23 b)
 
--- the table of document 01, line by line: 10, 11, 12 to 19, 2, 20, 21, then 22, 23, 1, 0
+-- the table of document 01, line by line: 10, 11, 12 to 19 with 24 among them, 2, 20, 21, then 22, 23, 1, 0
 unfoldable pub stepOf : Settings → State → List ℕ → List ℕ → Outcome
 stepOf c σ s b =
     refuseFirst (setupLines c σ) b

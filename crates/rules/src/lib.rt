@@ -10,8 +10,8 @@ pub struct Address {
     pub mac6: u8,
 }
 
-// What one table asks of the part that all sections share: the fewest bytes, the table_id, and
-// whether private_indicator has to be 0.
+// What one table asks of the part that all sections share: the fewest bytes, the table_id, and whether private_indicator is looked at: it has
+// to be 0, and tells the checksum form (24) from other wrong indicators (15).
 pub struct Form {
     pub fewest: usize,
     pub table: u8,

@@ -1,4 +1,5 @@
-// Whether a section is sound: the numbers 12 to 19 of document 01, in its order, for every slice of every length.
+// Whether a section is sound: the numbers 12 to 19 of document 01, in its order, and 24 of document 02 at 15's place, for every slice of every
+// length.
 use rules::Form;
 use section_fields::address_scrambling_control;
 use section_fields::checked;
@@ -15,7 +16,7 @@ use wire::either;
 use wire::first;
 ghost use mathlib.Core.Path.{_≡_};
 ghost use Rattle.wire.specs.Choice.{firstOf};
-ghost use Rattle.rules.specs.Check.{tooShort, otherTable, wrongLength, wrongSyntax, wrongCrc, notCurrent, outOfOrder, addressScrambled, formLines, orderLines, sharedRefusal, datagramForm, check};
+ghost use Rattle.rules.specs.Check.{tooShort, otherTable, wrongLength, checksumForm, wrongSyntax, wrongCrc, notCurrent, outOfOrder, addressScrambled, formLines, orderLines, sharedRefusal, datagramForm, check};
 
 fn too_short(form: Form, s: &[u8]) -> bool
     ensures { λ r. ⌜ r ≡ tooShort form (now (s .entry)) ⌝ }
@@ -34,6 +35,13 @@ fn wrong_length(s: &[u8]) -> bool
 {
     let n = section_length(s);
     either(4093 < n, n + 3 != s.len())
+}
+
+fn checksum_form(form: Form, s: &[u8]) -> bool
+    ensures { λ r. ⌜ r ≡ checksumForm form (now (s .entry)) ⌝ }
+{
+    let indicators = both(section_syntax_indicator(s) == 0, private_indicator(s) == 1);
+    both(form.private, indicators)
 }
 
 fn wrong_syntax(form: Form, s: &[u8]) -> bool
@@ -67,12 +75,13 @@ fn address_scrambled(s: &[u8]) -> bool
     address_scrambling_control(s) != 0
 }
 
-// The first of 12 to 15 that applies, else 0.
+// The first of 12, 13, 14, 24 and 15 that applies, else 0.
 fn form_refusal(form: Form, s: &[u8]) -> u8
     ensures { λ r. ⌜ r ≡ firstOf (formLines form (now (s .entry))) ⌝ }
 {
     let syntax = first(wrong_syntax(form, s), 15, 0);
-    let length = first(wrong_length(s), 14, syntax);
+    let checksum = first(checksum_form(form, s), 24, syntax);
+    let length = first(wrong_length(s), 14, checksum);
     let table = first(other_table(form, s), 13, length);
     first(too_short(form, s), 12, table)
 }
@@ -84,7 +93,8 @@ fn order_refusal(s: &[u8]) -> u8
     first(not_current(s), 17, first(out_of_order(s), 18, 0))
 }
 
-// The first of 12 to 18 that applies to a section of this form, else 0. The CRC_32 is computed only where 12 to 15 leave it to.
+// The first of 12 to 18 and 24 that applies to a section of this form, else 0. The CRC_32 is computed only where 12 to 15 and 24 leave it to:
+// in the checksum form there is none, and the last four bytes are not looked at.
 pub fn shared_refusal(form: Form, s: &[u8]) -> u8
     ensures { λ r. ⌜ r ≡ sharedRefusal form (now (s .entry)) ⌝ }
 {
@@ -109,7 +119,7 @@ fn datagram_form() -> Form
     }
 }
 
-// The first of 12 to 19 that applies to a datagram section, else 0.
+// The first of 12 to 19 and 24 that applies to a datagram section, else 0.
 pub fn check(s: &[u8]) -> u8
     ensures { λ r. ⌜ r ≡ check (now (s .entry)) ⌝ }
 {

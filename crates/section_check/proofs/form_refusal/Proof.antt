@@ -11,23 +11,29 @@ wrong-syntax-requires c κs = search needs
 first-requires : tie.Need-first-requires
 first-requires c κs = search needs
 
-wrong-length-requires : tie.Need-wrong-length-requires
-wrong-length-requires c κs = search needs
+checksum-form-requires : tie.Need-checksum-form-requires
+checksum-form-requires c κs = search needs
 
 first-requires-2 : tie.Need-first-requires-2
 first-requires-2 c κs = search needs
 
-other-table-requires : tie.Need-other-table-requires
-other-table-requires c κs = search needs
+wrong-length-requires : tie.Need-wrong-length-requires
+wrong-length-requires c κs = search needs
 
 first-requires-3 : tie.Need-first-requires-3
 first-requires-3 c κs = search needs
 
-too-short-requires : tie.Need-too-short-requires
-too-short-requires c κs = search needs
+other-table-requires : tie.Need-other-table-requires
+other-table-requires c κs = search needs
 
 first-requires-4 : tie.Need-first-requires-4
 first-requires-4 c κs = search needs
+
+too-short-requires : tie.Need-too-short-requires
+too-short-requires c κs = search needs
+
+first-requires-5 : tie.Need-first-requires-5
+first-requires-5 c κs = search needs
 
 returns : tie.Need-returns
 unfolding formLines firstOf
@@ -39,10 +45,12 @@ form-refusal-spec =
     (tie.spec
     wrong-syntax-requires
     first-requires
-    wrong-length-requires
+    checksum-form-requires
     first-requires-2
-    other-table-requires
+    wrong-length-requires
     first-requires-3
-    too-short-requires
+    other-table-requires
     first-requires-4
+    too-short-requires
+    first-requires-5
     returns)

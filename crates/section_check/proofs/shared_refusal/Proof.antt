@@ -1,4 +1,4 @@
--- The table is decided in parts: 12 to 15, then 16, then 17 and 18.
+-- The table is decided in parts: 12 to 15 with 24, then 16, then 17 and 18.
 use mathlib.Core.Path.{sym, _∙_}
 use denote.Ref.{now}
 use Rattle.wire.specs.Choice.{firstOf}
