@@ -21,7 +21,7 @@
 //! let refusal = fossknut::check(&section).unwrap_err();
 //! assert_eq!(
 //!     refusal.to_string(),
-//!     "15: section_syntax_indicator not 1, or private_indicator not 0"
+//!     "15: section_syntax_indicator and private_indicator equal"
 //! );
 //! ```
 
@@ -55,8 +55,8 @@ pub fn crc_32(bytes: &[u8]) -> u32 {
     ffi::crc_32(bytes)
 }
 
-/// Whether `section` is a sound datagram section of EN 301 192: `Ok` if it passes all checks from
-/// 12 to 19, else the first that it does not pass.
+/// Whether `section` is a sound datagram section of EN 301 192: `Ok` if it passes the checks 12 to
+/// 19 and 24, else the first that it does not pass.
 ///
 /// The slice has to be the whole section and nothing else, from table_id to CRC_32. To whom the
 /// section is addressed is not looked at.
@@ -70,11 +70,12 @@ pub fn crc_32(bytes: &[u8]) -> u32 {
 /// }
 /// assert_eq!(take(&[0x3E; 15]), Err(Refusal::TooShort));
 /// assert_eq!(take(&[0x3F; 16]), Err(Refusal::TableId));
+/// assert_eq!(take(b"\x3E\x70\x0Dhas no CRC_32"), Err(Refusal::ChecksumForm));
 /// ```
 ///
 /// # Errors
 ///
-/// The first of the refusals 12 to 19 that applies.
+/// The first of the refusals 12 to 19 and 24 that applies; 24 stands at 15's place.
 ///
 /// # Panics
 ///

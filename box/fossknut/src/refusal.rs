@@ -60,8 +60,9 @@ macro_rules! refusals {
 }
 
 refusals! {
-    /// Why a section is not taken, 10 to 23, or a unit not sent, 10 and 50 to 53: the first that
-    /// applies.
+    /// Why a section is not taken, 10 to 24, or a unit not sent, 10 and 50 to 53: the first that
+    /// applies. 24 stands at 15's place, before 16: a section in the checksum form of ISO/IEC
+    /// 13818-6 has no CRC_32, and its last four bytes are not looked at.
     ///
     /// Prints as its number and meaning:
     ///
@@ -81,7 +82,7 @@ refusals! {
         TooShort = 12, "fewer than 16 bytes";
         TableId = 13, "table_id not 0x3E";
         SectionLength = 14, "section_length over 4,093, or not the slice's length minus 3";
-        Indicators = 15, "section_syntax_indicator not 1, or private_indicator not 0";
+        Indicators = 15, "section_syntax_indicator and private_indicator equal";
         Crc32 = 16, "CRC_32 wrong";
         CurrentNextIndicator = 17, "current_next_indicator 0";
         SectionNumber = 18, "section_number above last_section_number";
@@ -90,6 +91,7 @@ refusals! {
         LastSectionNumber = 21, "last_section_number + 1 above the section limit";
         Continuation = 22, "neither number 0 nor the right continuation";
         Room = 23, "filled length and payload above room";
+        ChecksumForm = 24, "checksum form: section_syntax_indicator 0, private_indicator 1";
         PieceSize = 50, "piece size not 1..4,080";
         Unit = 51, "unit over 65,535";
         Sections = 52, "more sections than the limit";

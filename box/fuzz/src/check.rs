@@ -1,4 +1,4 @@
-//! The check, 12 to 19.
+//! The check, 12 to 19 and 24.
 
 use fossknut::Refusal;
 use second::generator::notifications::any_notification;

@@ -5,7 +5,7 @@ use std::fmt::Write;
 use std::fs;
 use std::path::PathBuf;
 
-use second::generator::{sound, with_byte, OURS};
+use second::generator::{in_checksum_form, sound, with_byte, with_damaged_bit, OURS};
 use second::listing::list;
 use second::recording::{offers, LISTING_OF_01};
 
@@ -18,6 +18,7 @@ fn main() -> std::io::Result<()> {
         ("each-number-once", each_number_once()),
         ("listing-of-the-papers", LISTING_OF_01.to_vec()),
         ("a-lost-section", a_lost_section()),
+        ("both-forms", both_forms()),
     ] {
         fs::write(folder.join(name).with_extension("bin"), &recording)?;
         fs::write(
@@ -53,22 +54,19 @@ fn three_sound_sections() -> Vec<u8> {
 
 /// The same, with one bit of the first payload received wrong.
 fn one_damaged_section() -> Vec<u8> {
-    let mut recording = three_sound_sections();
-    recording[12] ^= 1;
-    recording
+    with_damaged_bit(&three_sound_sections())
 }
 
-/// Sections on which the check answers 0, 13, 15, 16, 17, 18, 19, 12 and 14, in this order: 14
+/// Sections on which the check answers 0, 13, 15, 24, 16, 17, 18, 19, 12 and 14, in this order: 14
 /// where the recording stops inside a section.
 fn each_number_once() -> Vec<u8> {
     let sound = sound(OURS, 0, 0, b"knut");
-    let mut crc_32_wrong = sound.clone();
-    crc_32_wrong[19] ^= 0x80;
     [
         &sound[..],
         &with_byte(&sound, 0, 0x4C),
         &with_byte(&sound, 1, 0xF0),
-        &crc_32_wrong,
+        &with_byte(&sound, 1, 0x70),
+        &with_damaged_bit(&sound),
         &with_byte(&sound, 5, 0xC0),
         &with_byte(&sound, 6, 1),
         &with_byte(&sound, 5, 0xC5),
@@ -85,4 +83,24 @@ fn a_lost_section() -> Vec<u8> {
         .into_iter()
         .flat_map(|(number, last, payload)| sound(OURS, number, last, payload))
         .collect()
+}
+
+/// An uplink that has both forms of a section, with CRC_32 and with a checksum: a unit in two
+/// sections; the same with its second section in the checksum form, then with CRC_32; another unit
+/// in the checksum form, then with CRC_32. The two checksums are made up, since nobody looks at
+/// them.
+fn both_forms() -> Vec<u8> {
+    let first = sound(OURS, 0, 1, b"Foss");
+    let second = sound(OURS, 1, 1, b"knut");
+    let alone = sound(OURS, 0, 0, b"frog");
+    [
+        &first[..],
+        &second,
+        &first,
+        &in_checksum_form(&second, [0; 4]),
+        &second,
+        &in_checksum_form(&alone, [0x12, 0x34, 0x56, 0x78]),
+        &alone,
+    ]
+    .concat()
 }

@@ -13,8 +13,12 @@ use crate::tables::slicing_by_16 as crc_32;
 /// The address of the papers' samples, 02:00:5E:10:20:30.
 pub const OURS: [u8; 6] = SETTINGS.address;
 
-/// The checks of a section, in their order.
-pub const CHECKS: [u8; 8] = [12, 13, 14, 15, 16, 17, 18, 19];
+/// The checks of a section, in their order: 24 stands at 15's place.
+pub const CHECKS: [u8; 9] = [12, 13, 14, 15, 24, 16, 17, 18, 19];
+
+/// section_syntax_indicator 0 and private_indicator 1: the checksum form of ISO/IEC 13818-6 (02,
+/// request 2).
+pub const CHECKSUM_FORM: u8 = 0b01;
 
 /// Every set of `numbers`, each in their order: the empty one first, all of them last.
 pub fn subsets(numbers: &[u8]) -> impl Iterator<Item = Vec<u8>> + '_ {
@@ -25,6 +29,12 @@ pub fn subsets(numbers: &[u8]) -> impl Iterator<Item = Vec<u8>> + '_ {
             .filter(|(bit, _)| (set >> bit) & 1 == 1);
         chosen.map(|(_, &number)| number).collect()
     })
+}
+
+/// Every set of faults that a section can have, each in the order of the checks. None has both 15
+/// and 24: they are said of the same two bits, and exclude one another.
+pub fn sets_of_faults() -> impl Iterator<Item = Vec<u8>> {
+    subsets(&CHECKS).filter(|faults| !(faults.contains(&15) && faults.contains(&24)))
 }
 
 /// A sound section, as a sender writes it (01, "The sender"); `address` as printed, MAC_address_1
@@ -47,6 +57,11 @@ pub fn set_section_length(section: &mut [u8], section_length: usize) {
     section[2] = section_length as u8;
 }
 
+/// Writes section_syntax_indicator and private_indicator, the two bits of `indicators`.
+pub fn set_indicators(section: &mut [u8], indicators: u8) {
+    section[1] = (indicators << 6) | (section[1] & 0x3F);
+}
+
 /// Makes CRC_32 right.
 pub fn seal(section: &mut [u8]) {
     let (before, field) = section.split_at_mut(section.len() - CRC_32);
@@ -61,6 +76,21 @@ pub fn with_byte(section: &[u8], offset: usize, byte: u8) -> Vec<u8> {
     section
 }
 
+/// `section` with one bit after its header received wrong.
+pub fn with_damaged_bit(section: &[u8]) -> Vec<u8> {
+    let mut section = section.to_vec();
+    section[HEADER] ^= 1;
+    section
+}
+
+/// `section` in the checksum form, with this checksum in CRC_32's place.
+pub fn in_checksum_form(section: &[u8], checksum: [u8; CRC_32]) -> Vec<u8> {
+    let before = &section[..section.len() - CRC_32];
+    let mut section = [before, &checksum].concat();
+    set_indicators(&mut section, CHECKSUM_FORM);
+    section
+}
+
 /// A sound section for anyone: most are short, some of any length, and what the check ignores is of
 /// any value.
 pub fn any_sound(random: &mut Random) -> Vec<u8> {
@@ -68,7 +98,7 @@ pub fn any_sound(random: &mut Random) -> Vec<u8> {
 }
 
 /// A section to which the checks of `faults` apply, and no others, as far as the check in front
-/// lets one see.
+/// lets one see. Where `faults` has both 15 and 24, only the later one does.
 pub fn faulty(random: &mut Random, faults: &[u8]) -> Vec<u8> {
     let mut section = any_unsealed(random);
     for &fault in faults {
@@ -109,7 +139,8 @@ fn spoil(random: &mut Random, section: &mut Vec<u8>, fault: u8) {
     match fault {
         13 => section[0] ^= random.between(1, 0xFF) as u8,
         14 => spoil_length(random, section),
-        15 => section[1] ^= (random.between(1, 3) as u8) << 6,
+        15 => set_indicators(section, random.pick(&[0b00, 0b11])),
+        24 => set_indicators(section, CHECKSUM_FORM),
         17 => section[5] &= !1,
         18 => {
             let last_section_number = random.below(255);
@@ -188,7 +219,7 @@ mod tests {
     #[test]
     fn the_first_fault_decides() {
         let mut random = Random::new(2);
-        for faults in subsets(&CHECKS) {
+        for faults in sets_of_faults() {
             for _ in 0..20 {
                 let section = faulty(&mut random, &faults);
                 let first = faults.first().copied().unwrap_or(0);

@@ -2,8 +2,9 @@
 //! be.
 //!
 //! The proved program is held against it. Nothing is shared with the proved program but the papers:
-//! 01 is the customer's paper, READINGS the list of how its open points are read. Speed is no aim
-//! here, save that CRC_32 is taken by tables wherever it is not the question itself.
+//! 01 and 02 are the customer's, what is to be built and what is to change; READINGS is the list of
+//! how their open points are read. Speed is no aim here, save that CRC_32 is taken by tables
+//! wherever it is not the question itself.
 
 #![deny(missing_docs)]
 #![forbid(unsafe_code)]

@@ -91,7 +91,10 @@ impl Section<'_> {
     }
 }
 
-/// The first of the checks 12 to 19 that applies to `bytes`, else 0 (01, "The receiver").
+/// The first of the checks 12 to 19 and 24 that applies to `bytes`, else 0 (01, "The receiver").
+///
+/// 24 is for the checksum form of ISO/IEC 13818-6, and stands at 15's place (02, request 2): such a
+/// section has a checksum where others have CRC_32, and nobody looks at it.
 pub fn check(bytes: &[u8]) -> u8 {
     if bytes.len() < 16 {
         return 12;
@@ -101,7 +104,9 @@ pub fn check(bytes: &[u8]) -> u8 {
         13
     } else if section.section_length() > 4_093 || section.section_length() != bytes.len() - 3 {
         14
-    } else if section.section_syntax_indicator() != 1 || section.private_indicator() != 0 {
+    } else if section.section_syntax_indicator() == 0 && section.private_indicator() == 1 {
+        24
+    } else if section.section_syntax_indicator() == section.private_indicator() {
         15
     } else if section.crc_32() != crc_32(section.before_crc_32()) {
         16

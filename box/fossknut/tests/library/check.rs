@@ -1,11 +1,13 @@
-//! The check, 12 to 19.
+//! The check, 12 to 19 and 24.
 
 use crate::Library;
 use fossknut::Refusal;
 use second::generator::{
-    any_sound, faulty, seal, set_section_length, sound, subsets, CHECKS, OURS,
+    any_sound, faulty, in_checksum_form, seal, set_section_length, sets_of_faults, sound, CHECKS,
+    OURS,
 };
 use second::random::Random;
+use second::tally::Tally;
 use second::telling;
 
 impl Library {
@@ -147,6 +149,25 @@ fn every_single_damaged_bit() {
     }
 }
 
+/// A section in the checksum form has no CRC_32: its last four bytes may be anything, also what
+/// CRC_32 would be, or that with one bit wrong.
+#[test]
+fn any_checksum() {
+    let mut library = Library::new();
+    let mut random = Random::new(8);
+    for length in [16, 17, 188, 4_096] {
+        let section = sound_of(&mut random, length);
+        let crc_32 = second::crc_32(&in_checksum_form(&section, [0; 4])[..length - 4]);
+        let one_bit_wrong = (0..32).map(|bit| crc_32 ^ 1 << bit);
+        let any = (0..200).map(|_| random.below(1 << 32) as u32);
+        let checksums = [0, 1, u32::MAX, crc_32, !crc_32].into_iter();
+        for checksum in checksums.chain(one_bit_wrong).chain(any) {
+            let section = in_checksum_form(&section, checksum.to_be_bytes());
+            assert_eq!(library.agreed(&section), 24, "{checksum:08X}");
+        }
+    }
+}
+
 #[test]
 fn every_truncation() {
     let mut library = Library::new();
@@ -169,7 +190,7 @@ fn every_truncation() {
 fn every_set_of_faults() {
     let mut library = Library::new();
     let mut random = Random::new(5);
-    for faults in subsets(&CHECKS) {
+    for faults in sets_of_faults() {
         let first = faults.first().copied().unwrap_or(0);
         for _ in 0..100 {
             let section = faulty(&mut random, &faults);
@@ -186,7 +207,7 @@ fn every_set_of_faults() {
 fn random_sections() {
     let mut library = Library::new();
     let mut random = Random::new(6);
-    let mut times = [0; 20];
+    let mut tally = Tally::default();
     for _ in 0..200_000 {
         let section = if random.one_in(4) {
             bits_flipped(&mut random)
@@ -194,14 +215,9 @@ fn random_sections() {
             let faults = random.some(&CHECKS, 12);
             faulty(&mut random, &faults)
         };
-        times[usize::from(library.agreed(&section))] += 1;
+        tally.count(library.agreed(&section));
     }
-    for number in CHECKS.into_iter().chain([0]) {
-        assert!(
-            times[usize::from(number)] >= 2_000,
-            "too few of {number}: {times:?}"
-        );
-    }
+    tally.assert_all(CHECKS.into_iter().chain([0]), 2_000);
 }
 
 /// A section with some bits of its header or of any part of it flipped, and CRC_32 often right

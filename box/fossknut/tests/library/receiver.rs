@@ -113,7 +113,7 @@ fn random_rows() {
             tally.count(number);
         }
     }
-    tally.assert_all((0..=2).chain(12..=23), 200);
+    tally.assert_all((0..=2).chain(12..=24), 200);
 }
 
 /// The wrapper beside demand 3 told over the whole row.
@@ -179,7 +179,7 @@ fn settings_and_states_of_any_value() {
         pair.state.run *= any_1;
         tally.count(pair.receive(&section).0);
     }
-    tally.assert_all((0..=2).chain(10..=23), 20);
+    tally.assert_all((0..=2).chain(10..=24), 20);
 }
 
 #[test]

@@ -15,7 +15,7 @@ macro_rules! numbers {
 
 #[test]
 fn each_number_of_the_papers_has_one_refusal() {
-    let sections: Vec<u8> = (10..=23).chain(50..=53).collect();
+    let sections: Vec<u8> = (10..=24).chain(50..=53).collect();
     assert_eq!(numbers!(Refusal), sections);
     let notifications: Vec<u8> = (12..=18).chain(30..=33).collect();
     assert_eq!(numbers!(notification::Refusal), notifications);
@@ -25,6 +25,8 @@ fn each_number_of_the_papers_has_one_refusal() {
 #[test]
 fn the_text_is_the_number_and_the_meaning() {
     let error: Box<dyn std::error::Error> = Box::new(Refusal::Indicators);
-    let text = "15: section_syntax_indicator not 1, or private_indicator not 0";
+    let text = "15: section_syntax_indicator and private_indicator equal";
     assert_eq!(error.to_string(), text);
+    let text = "24: checksum form: section_syntax_indicator 0, private_indicator 1";
+    assert_eq!(Refusal::ChecksumForm.to_string(), text);
 }

@@ -76,6 +76,7 @@ pub fn faulty(random: &mut Random, faults: &[u8]) -> ([u8; 6], Vec<u8>) {
     if faults.contains(&32) {
         section = misfit(random, section, &loops);
     }
+    section[1] ^= random.pick(&[0, 0x40]); // bit 6 is ignored
     for &fault in faults {
         spoil(random, &mut section, fault);
     }

@@ -2,7 +2,10 @@
 
 use super::notifications::{any_notification, filler, with_loops};
 use super::rows::{any_run, disturbed_runs};
-use super::{any_sound, faulty, seal, set_section_length, sound, with_byte, OURS};
+use super::{
+    any_sound, faulty, in_checksum_form, seal, set_section_length, sound, with_byte,
+    with_damaged_bit, OURS,
+};
 use crate::listing::SETTINGS;
 use crate::random::Random;
 use crate::recording::{offers, LISTING_OF_01};
@@ -74,11 +77,9 @@ fn uncut() -> Vec<u8> {
     .concat()
 }
 
-/// Sections on which a listing answers 0, 1, 2 and 12 to 22, in another order.
+/// Sections on which a listing answers 0, 1, 2, 12 to 22 and 24, in another order.
 fn every_answer() -> Vec<u8> {
     let alone = sound(OURS, 0, 0, b"knut");
-    let mut crc_32_wrong = alone.clone();
-    crc_32_wrong[19] ^= 0x80;
     [
         &alone[..],
         &sound(OURS, 0, 15, b"Foss"),
@@ -87,7 +88,8 @@ fn every_answer() -> Vec<u8> {
         &sound(OURS, 3, 15, b"22"),
         &with_byte(&alone, 0, 0x4C),
         &with_byte(&alone, 1, 0xF0),
-        &crc_32_wrong,
+        &in_checksum_form(&alone, [0; 4]),
+        &with_damaged_bit(&alone),
         &with_byte(&alone, 5, 0xC0),
         &with_byte(&alone, 6, 1),
         &with_byte(&alone, 5, 0xC5),

@@ -1,10 +1,11 @@
 //! Rows of events as a bad night makes them: sections lost, doubled, swapped, damaged, and others'
 //! between ours.
 
-use super::{faulty, seal, sound, CHECKS};
+use super::{faulty, seal, set_indicators, sound, CHECKS, CHECKSUM_FORM};
 use crate::random::Random;
 use crate::receiver::{Run, Settings};
 use crate::row::Event;
+use crate::section::SHORTEST;
 
 /// A receiver that starts idle, and what it is given.
 #[derive(Clone, Debug)]
@@ -98,7 +99,8 @@ fn any_address(random: &mut Random, settings: &Settings) -> [u8; 6] {
     address
 }
 
-/// Some sections lost, doubled or swapped, some of another run, some with another number or flag.
+/// Some sections lost, doubled or swapped, some of another run, some with another number or flag,
+/// some in the checksum form.
 fn disturb(random: &mut Random, sections: &mut Vec<Vec<u8>>) {
     for _ in 0..random.below(4) {
         let count = sections.len();
@@ -106,20 +108,20 @@ fn disturb(random: &mut Random, sections: &mut Vec<Vec<u8>>) {
             return;
         }
         let (one, other) = (random.below(count), random.below(count));
-        match random.below(8) {
+        match random.below(9) {
             0 => drop(sections.remove(one)),
             1 => sections.insert(one, sections[one].clone()),
             2 => sections.swap(one, other),
             3 => sections.insert(one, sections[other].clone()),
             4 => damage(random, &mut sections[one]),
-            5 => set_and_seal(&mut sections[one], 5, |byte| byte ^ 2),
-            6 => {
-                let last = random.byte();
-                set_and_seal(&mut sections[one], 7, |_| last);
-            }
+            5 => change_and_seal(&mut sections[one], |section| section[5] ^= 2),
+            6 => change_and_seal(&mut sections[one], |section| section[7] = random.byte()),
+            7 => change_and_seal(&mut sections[one], |section| {
+                set_indicators(section, CHECKSUM_FORM);
+            }),
             _ => {
-                let faults = [CHECKS[random.below(CHECKS.len())]];
-                sections.insert(one, faulty(random, &faults));
+                let fault = random.pick(&CHECKS);
+                sections.insert(one, faulty(random, &[fault]));
             }
         }
     }
@@ -131,9 +133,9 @@ fn damage(random: &mut Random, section: &mut [u8]) {
     }
 }
 
-fn set_and_seal(section: &mut [u8], offset: usize, to: impl Fn(u8) -> u8) {
-    if section.len() >= 16 {
-        section[offset] = to(section[offset]);
+fn change_and_seal(section: &mut [u8], change: impl FnOnce(&mut [u8])) {
+    if section.len() >= SHORTEST {
+        change(section);
         seal(section);
     }
 }
@@ -232,7 +234,8 @@ pub fn nearly_continuing(
         2 => section[6] = 0,
         3 => section[7] = section[6],
         4 => section[6] = section[6].wrapping_add(1),
-        5 => {
+        5 => set_indicators(&mut section, random.pick(&[0b00, CHECKSUM_FORM, 0b11])),
+        6 => {
             let fault = random.pick(&CHECKS);
             return faulty(random, &[fault]);
         }

@@ -1,7 +1,7 @@
 //! INT sections for the reader.
 
 use crate::generator::notifications::{descriptor, finished, with_loops};
-use crate::generator::{seal, with_byte, OURS};
+use crate::generator::{seal, with_byte, with_damaged_bit, OURS};
 
 /// A section, and what is answered for a device.
 pub struct Notification {
@@ -61,16 +61,20 @@ fn headers() -> Vec<Row> {
     let mut section_length = empty.clone();
     section_length[2] += 1;
     seal(&mut section_length);
-    let mut crc_32 = empty.clone();
-    crc_32[17] ^= 1;
+    let bits = |indicators: u8| with_byte(&empty, 1, indicators << 6 | 0x30);
     vec![
         ("A3: 17 bytes", empty[..17].to_vec(), 12, 0),
         ("A3: 17 bytes, all right but for that", with_stray(empty[..16].to_vec(), &[0]), 12, 0),
         ("01: table_id 0x3E", with_byte(&empty, 0, 0x3E), 13, 0),
         ("01: section_length one too long", section_length, 14, 0),
-        ("01: indicator 0", with_byte(&empty, 1, 0x70), 15, 0),
-        ("01: bit 6 ignored", with_byte(&empty, 1, 0xB0), 4, 0),
-        ("01: CRC_32 wrong", crc_32, 16, 0),
+        ("B1: bits 00", bits(0b00), 15, 0),
+        ("B1: bits 01", bits(0b01), 15, 0),
+        ("B1: bits 10", bits(0b10), 4, 0),
+        ("B1: bits 11", bits(0b11), 4, 0),
+        ("B1: bits 00, CRC_32 wrong", with_damaged_bit(&bits(0b00)), 15, 0),
+        ("B1: bits 01, CRC_32 wrong", with_damaged_bit(&bits(0b01)), 15, 0),
+        ("B1: bits 10, CRC_32 wrong", with_damaged_bit(&bits(0b10)), 16, 0),
+        ("B1: bits 11, CRC_32 wrong", with_damaged_bit(&bits(0b11)), 16, 0),
         ("01: current_next_indicator 0", with_byte(&empty, 5, 0xC0), 17, 0),
         ("01: section_number 1 of 0", with_byte(&empty, 6, 1), 18, 0),
         ("01: action 0x02", with_byte(&empty, 3, 0x02), 30, 0),

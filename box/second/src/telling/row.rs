@@ -1,6 +1,6 @@
 //! Rows for the receiver.
 
-use crate::generator::{sound, with_byte, OURS};
+use crate::generator::{in_checksum_form, sound, with_byte, with_damaged_bit, OURS};
 use crate::listing::SETTINGS;
 use crate::receiver::{Run, Settings};
 use crate::row::Event::{self, Gap, Section};
@@ -26,10 +26,13 @@ pub fn rows() -> Vec<Row> {
     let mut rows = samples_of_01();
     rows.extend(continuations());
     rows.extend(passing_by());
+    rows.extend(both_forms());
     rows.extend(states());
     rows.extend(first_sections());
     rows
 }
+
+const ANOTHER: [u8; 6] = [2, 0, 0, 0, 0, 1];
 
 /// The listing's settings, idle, and a buffer of 65,535.
 fn row(source: &'static str, events: Vec<Event>, answers: &[(u8, usize)]) -> Row {
@@ -50,18 +53,20 @@ fn ours(section_number: u8, last_section_number: u8, payload_length: usize) -> E
 }
 
 fn others(last_section_number: u8, byte_5: u8) -> Event {
-    let section = sound([2, 0, 0, 0, 0, 1], 0, last_section_number, b"others");
+    let section = sound(ANOTHER, 0, last_section_number, b"others");
     Section(with_byte(&section, 5, byte_5))
 }
 
 fn damaged(event: Event) -> Event {
     match event {
-        Section(mut bytes) => {
-            bytes[12] ^= 1;
-            Section(bytes)
-        }
+        Section(bytes) => Section(with_damaged_bit(&bytes)),
         Gap => Gap,
     }
+}
+
+/// A run of two sections, with payloads of 2 and 3 bytes, and what comes between them.
+fn between(event: Event) -> Vec<Event> {
+    vec![ours(0, 1, 2), event, ours(1, 1, 3)]
 }
 
 /// Payload lengths 4, 0, 3 in one run.
@@ -102,12 +107,29 @@ fn continuations() -> Vec<Row> {
 
 #[rustfmt::skip] // one row per line
 fn passing_by() -> Vec<Row> {
-    let between = |event| vec![ours(0, 1, 2), event, ours(1, 1, 3)];
     vec![
         row("A2: a sound section for another address between", between(others(0, 0xC1)), &[(1, 0), (2, 0), (0, 5)]),
         row("A5: address scrambling 01, another's address", between(others(0, 0xC5)), &[(1, 0), (19, 0), (22, 0)]),
         row("A5: another's section, damaged", between(damaged(others(0, 0xC1))), &[(1, 0), (16, 0), (22, 0)]),
         row("A6: another's payload scrambling 11, last 255", between(others(255, 0xF1)), &[(1, 0), (2, 0), (0, 5)]),
+    ]
+}
+
+/// Sections in the checksum form where others have CRC_32.
+#[rustfmt::skip] // one row per line
+fn both_forms() -> Vec<Row> {
+    let last_of_2 = |address, byte_1| Section(with_byte(&sound(address, 1, 1, b"knut"), 1, byte_1));
+    let first_of_2 = Section(in_checksum_form(&sound(OURS, 0, 1, b"Foss"), [0; 4]));
+    let alone = Section(in_checksum_form(&sound(OURS, 0, 0, b"knut"), *b"\x12\x34\x56\x78"));
+    let refused = |number| [(1, 0), (number, 0), (22, 0)];
+    vec![
+        row("B1: bits 01 between", between(last_of_2(OURS, 0x70)), &refused(24)),
+        row("B1: bits 01 between, another's address", between(last_of_2(ANOTHER, 0x70)), &refused(24)),
+        row("B1: bits 01 between, no CRC_32", between(alone.clone()), &refused(24)),
+        row("B1: bits 00 between, another's address", between(last_of_2(ANOTHER, 0x30)), &refused(15)),
+        row("B1: bits 11 between, another's address", between(last_of_2(ANOTHER, 0xF0)), &refused(15)),
+        row("B1: bits 01 in number 0", vec![first_of_2, ours(1, 1, 3)], &[(24, 0), (22, 0)]),
+        row("B1: a unit after bits 01", vec![alone, ours(0, 0, 4)], &[(24, 0), (0, 4)]),
     ]
 }
 

@@ -1,6 +1,9 @@
 //! Sections for the check.
 
-use crate::generator::{seal, set_section_length, sound, with_byte, OURS};
+use crate::generator::{
+    in_checksum_form, seal, set_indicators, set_section_length, sound, with_byte, with_damaged_bit,
+    CHECKSUM_FORM, OURS,
+};
 use crate::recording::LISTING_OF_01;
 
 /// A section to check.
@@ -9,7 +12,7 @@ pub struct Section {
     pub source: &'static str,
     /// The section.
     pub bytes: Vec<u8>,
-    /// What the check answers: 12 to 19, or 0.
+    /// What the check answers: 12 to 19, 24, or 0.
     pub number: u8,
 }
 
@@ -17,6 +20,7 @@ pub struct Section {
 pub fn sections() -> Vec<Section> {
     let samples = samples_of_01().into_iter();
     let rows = samples.chain(lengths()).chain(ignored_bits());
+    let rows = rows.chain(indicators()).chain(checksum_form());
     rows.map(|(source, bytes, number)| Section {
         source,
         bytes,
@@ -75,6 +79,55 @@ fn ignored_bits() -> Vec<Row> {
         ("A19: byte 5 without reserved bits", with_byte(&shortest, 5, 0x01), 0),
         ("A19: byte 5 with one of them", with_byte(&shortest, 5, 0x41), 0),
         ("A19: byte 5 with the other", with_byte(&shortest, 5, 0x81), 0),
+    ]
+}
+
+/// `section` with these bits as section_syntax_indicator and private_indicator, and CRC_32 right.
+fn with_indicators(section: &[u8], indicators: u8) -> Vec<u8> {
+    let mut section = section.to_vec();
+    set_indicators(&mut section, indicators);
+    seal(&mut section);
+    section
+}
+
+#[rustfmt::skip] // one row per line
+fn indicators() -> Vec<Row> {
+    let bits = |indicators| with_indicators(&with_payload(4), indicators);
+    vec![
+        ("B1: bits 00", bits(0b00), 15),
+        ("B1: bits 01", bits(0b01), 24),
+        ("B1: bits 10", bits(0b10), 0),
+        ("B1: bits 11", bits(0b11), 15),
+        ("B1: bits 00, CRC_32 wrong", with_damaged_bit(&bits(0b00)), 15),
+        ("B1: bits 01, CRC_32 wrong", with_damaged_bit(&bits(0b01)), 24),
+        ("B1: bits 10, CRC_32 wrong", with_damaged_bit(&bits(0b10)), 16),
+        ("B1: bits 11, CRC_32 wrong", with_damaged_bit(&bits(0b11)), 15),
+        ("B1: bits 00, without reserved bits", with_byte(&bits(0b00), 1, 0x00), 15),
+        ("B1: bits 01, without reserved bits", with_byte(&bits(0b01), 1, 0x40), 24),
+        ("B1: bits 11, without reserved bits", with_byte(&bits(0b11), 1, 0xC0), 15),
+    ]
+}
+
+/// 12, 13 and 14 stand before 24, and 16 to 19 behind it, whoever is addressed.
+#[rustfmt::skip] // one row per line
+fn checksum_form() -> Vec<Row> {
+    let of_length = |length| with_indicators(&with_payload(length), CHECKSUM_FORM);
+    let (shortest, longest) = (of_length(0), of_length(4_080));
+    let mut section_length = shortest.clone();
+    section_length[2] += 1;
+    seal(&mut section_length);
+    vec![
+        ("B1: bits 01 in 15 bytes", shortest[..15].to_vec(), 12),
+        ("B1: bits 01 in another table", with_byte(&shortest, 0, 0x4C), 13),
+        ("B1: bits 01, section_length one too long", section_length, 14),
+        ("B1: bits 01, section_length 4,094 in 4,097 bytes", of_length(4_081), 14),
+        ("B1: bits 01 in 16 bytes", shortest.clone(), 24),
+        ("B1: bits 01 in 4,096 bytes", longest, 24),
+        ("B1: bits 01, 0 in CRC_32's place", in_checksum_form(&shortest, [0; 4]), 24),
+        ("B1: bits 01, current_next_indicator 0", with_byte(&shortest, 5, 0xC0), 24),
+        ("B1: bits 01, section_number 1 of 0", with_byte(&shortest, 6, 1), 24),
+        ("B1: bits 01, address scrambling 01", with_byte(&shortest, 5, 0xC5), 24),
+        ("B1: bits 01, another's address", with_byte(&shortest, 3, 0x31), 24),
     ]
 }
 
