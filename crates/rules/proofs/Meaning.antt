@@ -1,16 +1,15 @@
 -- Each line of a table tests what its row means, so the first line that applies has the number of the first row that does.
 use Prim.Native.Nat.{ℕ, zero, suc, _+_, _*_, _-_, _≤_, _<_, min}
-use native.Mathlib.Decide.{ℕ-discrete}
 use native.Mathlib.Omega.{arith}
 use mathlib.Core.Path.{_≡_, refl, sym, ap, subst, _∙_}
-use mathlib.Core.Logic.{_≢_, _⊎_, inl, inr, ⊎-elim}
+use mathlib.Core.Logic.{_↔_, _≢_, _⊎_, inl, inr, ⊎-elim}
 use mathlib.Core.List.{List, [], _∷_, _++_, flatten}
 use mathlib.Core.Bool.{Bool, true, false, not, Bool·beq}
 use lib.ListN.{length, take}
 use lib.Dec.{eqb, leb, ltb}
 use borrow.Author.Tests.{eqb-false, eqb-true, leb-false, leb-true, lt-leb, ltb-false, not-false, not-true}
 use Rattle.wire.specs.Bytes.{bit, bits, byteAt, numberAt}
-use Rattle.wire.specs.Choice.{pick, both, either, Line, first, firstOf, without}
+use Rattle.wire.specs.Choice.{pick, both, Line, first, firstOf, without}
 use Rattle.wire.specs.Meaning.{Row, _means_}
 use Rattle.wire.proofs.Choice.{both-true, never, not-first}
 use Rattle.wire.proofs.Meaning.{Gives, gives-last, gives-row, or-else, or-zero, orElse, Tells, tells-both, tells-either, tells-eq, tells-le, tells-lt, tells-not, tells-outside}
@@ -55,59 +54,34 @@ gives-refusal f s m rest place g =
     (ltb-false _ _ e12))))))))
 
 -- ---- 24 and 15
--- two bits: what document 01 calls 15 is the checksum form or equal bits, and never both
-pub record Indicators (x y : ℕ) : Type 0 where
-  pub one : (x ≢ 1) ⊎ (y ≢ 0) → ((x ≡ 0) × (y ≡ 1)) ⊎ (x ≡ y)
-  pub checksum : (x ≡ 0) × (y ≡ 1) → (x ≢ 1) ⊎ (y ≢ 0)
-  pub equal : x ≡ y → (x ≢ 1) ⊎ (y ≢ 0)
-  pub apart : x ≡ y → (x ≡ 0) × (y ≡ 1) → ⊥
+-- the four pairs of two bits: what document 01 calls 15 is the checksum form, or two that are equal
+indicators : (x y : ℕ) → x < 2 → y < 2 → ((x ≢ 1) ⊎ (y ≢ 0)) ↔ (((x ≡ 0) × (y ≡ 1)) ⊎ (x ≡ y))
+indicators zero zero h k = (λ _. inr refl, λ _. inl (λ e. omega (arith, e)))
+indicators zero (suc zero) h k = (λ _. inl (refl, refl), λ _. inl (λ e. omega (arith, e)))
+indicators (suc zero) zero h k =
+    (⊎-elim (λ n. absurd (n refl)) (λ n. absurd (n refl)), ⊎-elim (λ c. absurd (omega (arith, c .0))) (λ e. absurd (omega (arith, e))))
+indicators (suc zero) (suc zero) h k = (λ _. inr refl, λ _. inr (λ e. omega (arith, e)))
+indicators zero (suc (suc y)) h k = absurd (omega arith)
+indicators (suc zero) (suc (suc y)) h k = absurd (omega arith)
+indicators (suc (suc x)) y h k = absurd (omega arith)
 
-pub indicators : (x y : ℕ) → x < 2 → y < 2 → Indicators x y
-indicators x y h k =
-    record {
-      one = one;
-      checksum = λ c. inl (λ e. omega (arith, c .0));
-      equal = λ e. go e (ℕ-discrete x 1);
-      apart = λ e c. omega (arith, c .0, c .1);
-    }
-  where
-    go : x ≡ y → Dec (x ≡ 1) → (x ≢ 1) ⊎ (y ≢ 0)
-    go e (yes p) = inr (λ z. omega arith)
-    go e (no n) = inl n
+pub indicated : (s : List ℕ) → ((bit 7 (byteAt s 1) ≢ 1) ⊎ (bit 6 (byteAt s 1) ≢ 0)) ↔ (InChecksumForm s ⊎ (bit 7 (byteAt s 1) ≡ bit 6 (byteAt s 1)))
+indicated s = indicators _ _ (omega arith) (omega arith)
 
-    neither : (x ≢ 1) ⊎ (y ≢ 0) → (x ≡ y → ⊥) → (x ≡ 0) × (y ≡ 1)
-    neither (inl n) d = (omega arith, omega arith)
-    neither (inr n) d = (omega arith, omega arith)
-
-    one : (x ≢ 1) ⊎ (y ≢ 0) → ((x ≡ 0) × (y ≡ 1)) ⊎ (x ≡ y)
-    one o = decide (ℕ-discrete x y)
-      where
-        decide : Dec (x ≡ y) → ((x ≡ 0) × (y ≡ 1)) ⊎ (x ≡ y)
-        decide (yes e) = inr e
-        decide (no d) = inl (neither o d)
-
-pub indicators-of : (s : List ℕ) → Indicators (bit 7 (byteAt s 1)) (bit 6 (byteAt s 1))
-indicators-of s = indicators _ _ (omega arith) (omega arith)
-
--- the line of 15 tells equal bits where that of 24 does not apply
+-- the line of 15 tells two equal bits where that of 24 does not apply
 datagram-syntax : (s : List ℕ) → Place15 datagramForm s (24 means InChecksumForm s ∷ 15 means (bit 7 (byteAt s 1) ≡ bit 6 (byteAt s 1)) ∷ [])
 unfolding checksumForm wrongSyntax sectionSyntaxIndicator privateIndicator both
 datagram-syntax s =
+    let checksum = tells-both _ _ (tells-eq (bit 7 (byteAt s 1)) 0) (tells-eq (bit 6 (byteAt s 1)) 1) in
+    let wrong = tells-either _ _ (tells-not _ (tells-eq (bit 7 (byteAt s 1)) 1)) (tells-not _ (tells-eq (bit 6 (byteAt s 1)) 0)) in
     record {
       gives = λ g.
           gives-row _ 24 checksum (λ e24.
-          gives-row _ 15 (λ p. ⊎-elim (λ c. absurd (never (sym e24 ∙ checksum .1 c))) (λ e. e) (two .one (lumped .0 p)), λ e. lumped .1 (two .equal e))
-          (g e24));
+          gives-row _ 15 (
+            λ p. ⊎-elim (λ c. absurd (never (sym e24 ∙ checksum .1 c))) (λ e. e) (indicated s .0 (wrong .0 p)),
+            λ e. wrong .1 (indicated s .1 (inr e)),
+          ) (g e24));
     }
-  where
-    two : Indicators (bit 7 (byteAt s 1)) (bit 6 (byteAt s 1))
-    two = indicators-of s
-
-    checksum : Tells (both (eqb (bit 7 (byteAt s 1)) 0) (eqb (bit 6 (byteAt s 1)) 1)) (InChecksumForm s)
-    checksum = tells-both _ _ (tells-eq (bit 7 (byteAt s 1)) 0) (tells-eq (bit 6 (byteAt s 1)) 1)
-
-    lumped : Tells (either (not (eqb (bit 7 (byteAt s 1)) 1)) (not (eqb (bit 6 (byteAt s 1)) 0))) ((bit 7 (byteAt s 1) ≢ 1) ⊎ (bit 6 (byteAt s 1) ≢ 0))
-    lumped = tells-either _ _ (tells-not _ (tells-eq (bit 7 (byteAt s 1)) 1)) (tells-not _ (tells-eq (bit 6 (byteAt s 1)) 0))
 
 -- ---- the datagram section: 12 to 19 and 24
 gives-check : (s : List ℕ) (m : ℕ) (rest : List Row) → (16 ≤ length s → Gives m rest)

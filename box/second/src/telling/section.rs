@@ -108,7 +108,7 @@ fn indicators() -> Vec<Row> {
     ]
 }
 
-/// 12, 13 and 14 stand before 24, and 16 to 19 behind it, whoever is addressed.
+/// 12, 13 and 14 stand before 24, and 16 to 19 after it, whoever is addressed.
 #[rustfmt::skip] // one row per line
 fn checksum_form() -> Vec<Row> {
     let of_length = |length| with_indicators(&with_payload(length), CHECKSUM_FORM);
