@@ -22,11 +22,11 @@ otherTable f s = not (eqb (tableId s) (f .table))
 unfoldable pub wrongLength : List ℕ → Bool
 wrongLength s = either (ltb 4093 (sectionLength s)) (not (eqb (sectionLength s + 3) (length s)))
 
--- 24: section_syntax_indicator is 0 and private_indicator 1, where the table asks for it: the checksum form of ISO/IEC 13818-6
+-- 24: section_syntax_indicator is 0 and private_indicator 1, where the table looks at it: the checksum form of ISO/IEC 13818-6
 unfoldable pub checksumForm : Form → List ℕ → Bool
 checksumForm f s = both (f .private) (both (eqb (sectionSyntaxIndicator s) 0) (eqb (privateIndicator s) 1))
 
--- 15: section_syntax_indicator is not 1, or private_indicator not 0 where the table asks for it
+-- 15: section_syntax_indicator is not 1, or private_indicator not 0 where the table looks at it; 24 before it leaves two that are equal
 unfoldable pub wrongSyntax : Form → List ℕ → Bool
 wrongSyntax f s = either (not (eqb (sectionSyntaxIndicator s) 1)) (both (f .private) (not (eqb (privateIndicator s) 0)))
 
