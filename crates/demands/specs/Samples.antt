@@ -86,7 +86,7 @@ samples =
     ∷ sample (packet (0x22 ∷ 0x00 ∷ 0x31 ∷ [])) (43 ∷ 0 ∷ 0 ∷ [])
     -- (P) platform_id 01 02 04 has hash 07; 06 gives 31
     ∷ sample (platform 0xB0 0x07 ∷ platform 0xB0 0x06 ∷ []) (4 ∷ 31 ∷ [])
-    -- 02, request 2: bits 01: 24, whatever the last four bytes are; bits 00 and 11: 15; bits 10 leave it to the CRC_32
+    -- 02, request 2: with a wrong CRC_32, bits 01: 24, bits 00 and 11: 15, bits 10: 16
     ∷ sample (indicators 0x70 ∷ indicators 0x30 ∷ indicators 0xF0 ∷ indicators 0xB0 ∷ []) (24 ∷ 15 ∷ 15 ∷ 16 ∷ [])
     -- 02, request 2: the INT keeps 15 for bits 01 and 00, and bit 6 is not looked at
     ∷ sample (platform 0x70 0x07 ∷ platform 0x30 0x07 ∷ platform 0xF0 0x07 ∷ []) (15 ∷ 15 ∷ 4 ∷ [])

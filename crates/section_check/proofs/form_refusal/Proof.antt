@@ -1,4 +1,5 @@
 -- The code computes the definition.
+use mathlib.Core.Path.{_∙_}
 use Rattle.rules.specs.Check.{formLines}
 use Rattle.wire.specs.Choice.{firstOf}
 use borrow.Author.Needs.{needs}
@@ -37,7 +38,23 @@ first-requires-5 c κs = search needs
 
 returns : tie.Need-returns
 unfolding formLines firstOf
-returns c = cc
+returns c =
+    let t13 = c .before .before in
+    let t14 = t13 .before .before in
+    let t24 = t14 .before .before in
+    let t15 = t24 .before .before in
+    c .first5 .ensures
+    ∙ rw (
+      c .before .too-short .ensures,
+      t13 .first4 .ensures,
+      t13 .before .other-table .ensures,
+      t14 .first3 .ensures,
+      t14 .before .wrong-length .ensures,
+      t24 .first2 .ensures,
+      t24 .before .checksum-form .ensures,
+      t15 .first .ensures,
+      t15 .before .wrong-syntax .ensures,
+    )
 
 pub form-refusal-spec : {M : Type 1} → statement M
 form-refusal-spec =
