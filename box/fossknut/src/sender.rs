@@ -6,10 +6,12 @@ use crate::{Refusal, Settings};
 /// Cuts `unit` into datagram sections for `settings.address`, back to back from the start of
 /// `output`, and gives their length in all.
 ///
-/// Each section carries `piece_size` bytes of the unit, 1 to 4,080, the last one the rest; without
-/// a piece size it is 4,080. An empty unit is sent, too: as one section without payload. A section
-/// has 16 bytes beside its piece. `llc_snap` says that the unit begins with an LLC/SNAP header; it
-/// is not looked at here.
+/// Each section carries `piece_size` bytes of the unit, 1 to 4,080, the last one the rest, and has 16
+/// bytes beside them. Without a piece size it is 1,008: then no section has more than 1,024 bytes,
+/// which is what the field boxes of the second series hold, and a unit of more than 1,008 bytes for
+/// each section of the limit (16,128 with a limit of 16) is refused with [`Refusal::Sections`]. An
+/// empty unit is sent, too: as one section without payload. `llc_snap` says that the unit begins
+/// with an LLC/SNAP header; it is not looked at here.
 ///
 /// The bytes of `output` after the sections stay as they were.
 ///
@@ -18,14 +20,18 @@ use crate::{Refusal, Settings};
 ///
 /// let address = [0x02, 0x00, 0x5E, 0x10, 0x20, 0x30];
 /// let settings = Settings { address, range: 6, limit: 16 };
-/// let unit = [0x55; 4_081];
-/// let mut output = [0; 5_000];
+/// let unit = [0x55; 1_009];
+/// let mut output = [0; 1_100];
 /// let length = fossknut::send(&settings, false, None, &unit, &mut output)?;
-/// assert_eq!(length, 4_096 + 17);
+/// assert_eq!(length, 1_024 + 17);
 ///
 /// let mut receiver = Receiver::new(settings, vec![0; 65_535]);
-/// assert_eq!(receiver.receive(&output[..4_096]), Answer::Stored);
-/// assert_eq!(receiver.receive(&output[4_096..length]), Answer::Delivered(&unit));
+/// assert_eq!(receiver.receive(&output[..1_024]), Answer::Stored);
+/// assert_eq!(receiver.receive(&output[1_024..length]), Answer::Delivered(&unit));
+///
+/// // In one section, by a size that is given.
+/// let length = fossknut::send(&settings, false, Some(4_080), &unit, &mut output)?;
+/// assert_eq!(length, 1_025);
 /// # Ok::<(), fossknut::Refusal>(())
 /// ```
 ///

@@ -5,7 +5,7 @@ use second::generator::rows::any_settings;
 use second::random::Random;
 use second::receiver::Settings;
 use second::recording::offers;
-use second::sender::{send, PIECE_SIZE};
+use second::sender::{send, DEFAULT_PIECE_SIZE, LARGEST_PIECE_SIZE};
 use second::tally::Tally;
 
 use crate::ffi;
@@ -25,7 +25,7 @@ pub struct Sending {
 pub fn input(random: &mut Random) -> Sending {
     let piece_size = match random.below(8) {
         0 => random.pick(&[0, 4_081, 4_096, 65_537, 1 << 32 | 16, usize::MAX]),
-        1 => random.pick(&[1, 2, 4_079, 4_080]),
+        1 => random.pick(&[1, 2, 1_008, 4_079, 4_080]),
         2 => random.between(1, 4_080),
         _ => random.between(1, 200),
     };
@@ -38,7 +38,8 @@ pub fn input_by_default(random: &mut Random) -> Sending {
 
 fn any_sending(random: &mut Random, piece_size: Option<usize>) -> Sending {
     let settings = any_settings(random);
-    let size = piece_size.unwrap_or(PIECE_SIZE).clamp(1, PIECE_SIZE);
+    let size = piece_size.unwrap_or(DEFAULT_PIECE_SIZE);
+    let size = size.clamp(1, LARGEST_PIECE_SIZE);
     let unit_length = any_unit_length(random, size, settings.limit.min(256));
     let exact = unit_length + 16 * ((unit_length + size - 1) / size).max(1);
     let output_length = match random.below(8) {

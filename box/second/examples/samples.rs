@@ -6,8 +6,9 @@ use std::fs;
 use std::path::PathBuf;
 
 use second::generator::{in_checksum_form, sound, with_byte, with_damaged_bit, OURS};
-use second::listing::list;
+use second::listing::{list, SETTINGS};
 use second::recording::{offers, LISTING_OF_01};
+use second::sender::send;
 
 fn main() -> std::io::Result<()> {
     let folder = PathBuf::from(std::env::args_os().nth(1).expect("a folder to write to"));
@@ -19,6 +20,7 @@ fn main() -> std::io::Result<()> {
         ("listing-of-the-papers", LISTING_OF_01.to_vec()),
         ("a-lost-section", a_lost_section()),
         ("both-forms", both_forms()),
+        ("sent-by-default", sent_by_default()),
     ] {
         fs::write(folder.join(name).with_extension("bin"), &recording)?;
         fs::write(
@@ -103,4 +105,13 @@ fn both_forms() -> Vec<u8> {
         &alone,
     ]
     .concat()
+}
+
+/// A unit of 1,009 bytes, one more than a section carries where no piece size is given.
+fn sent_by_default() -> Vec<u8> {
+    let unit: Vec<u8> = b"a night of curves ".iter().copied().cycle().take(1_009).collect();
+    let mut sections = vec![0; 1_024 + 17];
+    let answer = send(&SETTINGS, false, None, &unit, &mut sections);
+    assert_eq!((answer.number, answer.length), (0, sections.len()));
+    sections
 }

@@ -5,6 +5,9 @@ use std::io::{self, Read, Write};
 use crate::listing::{read_full, SETTINGS};
 use crate::sender::send;
 
+/// The piece size that it counts on, and so gives itself (02, request 7).
+const PIECE_SIZE: usize = 4_080;
+
 /// One byte more than the longest unit, so that a longer one is seen to be so.
 const LONGEST_INPUT: usize = 65_535 + 1;
 
@@ -21,7 +24,8 @@ pub fn archive(
     let mut unit = vec![0; LONGEST_INPUT];
     let length = read_full(&mut input, &mut unit);
     let mut sections = vec![0; LONGEST_INPUT + 16 * SETTINGS.limit];
-    let answer = send(&SETTINGS, false, None, &unit[..length], &mut sections);
+    let unit = &unit[..length];
+    let answer = send(&SETTINGS, false, Some(PIECE_SIZE), unit, &mut sections);
     if answer.number != 0 {
         return writeln!(errors, "{}", answer.number);
     }
@@ -43,9 +47,10 @@ mod tests {
 
     #[test]
     fn the_lengths_of_the_readings() {
-        // READINGS A20, A21
+        // READINGS A20, A21, B13
         assert_eq!(archived(0), (16, String::new()));
         assert_eq!(archived(4_081), (4_113, String::new()));
+        assert_eq!(archived(16_129), (16_129 + 16 * 4, String::new()));
         assert_eq!(archived(65_280), (65_280 + 16 * 16, String::new()));
         assert_eq!(archived(65_281), (0, "52\n".to_string()));
         assert_eq!(archived(65_535), (0, "52\n".to_string()));

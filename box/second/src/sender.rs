@@ -4,8 +4,11 @@ use crate::receiver::{Answer, Settings};
 use crate::section::{BEFORE_LENGTH, CRC_32, HEADER, SHORTEST, TABLE_ID};
 use crate::tables::slicing_by_16 as crc_32;
 
-/// The piece size where none is given.
-pub const PIECE_SIZE: usize = 4_080;
+/// The piece size where none is given (02, request 7): a section has [`SHORTEST`] bytes beside its
+/// piece, so 1,024 at most.
+pub const DEFAULT_PIECE_SIZE: usize = 1_008;
+/// The greatest piece size that can be given.
+pub const LARGEST_PIECE_SIZE: usize = 4_080;
 
 /// Writes the sections of `unit` to the start of `output`, or refuses to and writes nothing.
 pub fn send(
@@ -15,7 +18,7 @@ pub fn send(
     unit: &[u8],
     output: &mut [u8],
 ) -> Answer {
-    let piece_size = piece_size.unwrap_or(PIECE_SIZE);
+    let piece_size = piece_size.unwrap_or(DEFAULT_PIECE_SIZE);
     let number = refusal(settings, piece_size, unit.len(), output.len());
     if number != 0 {
         return Answer { number, length: 0 };
@@ -37,7 +40,7 @@ pub fn send(
 fn refusal(settings: &Settings, piece_size: usize, unit: usize, output: usize) -> u8 {
     if !settings.are_good() {
         10
-    } else if !(1..=4_080).contains(&piece_size) {
+    } else if !(1..=LARGEST_PIECE_SIZE).contains(&piece_size) {
         50
     } else if unit > 65_535 {
         51

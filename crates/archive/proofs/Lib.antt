@@ -1,1 +1,2 @@
 mod Says
+mod Still

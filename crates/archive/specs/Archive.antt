@@ -1,29 +1,47 @@
 -- What the archive sender sends, and what it tells of a failure.
-use Prim.Native.Nat.{ℕ}
+use Prim.Native.Nat.{ℕ, _+_, _≤_, _<_}
 use mathlib.Core.Path.{_≡_}
+use mathlib.Core.Logic.{_↔_}
 use mathlib.Core.Bool.{Bool, false}
 use mathlib.Core.List.{List, []}
 use lib.Dec.{eqb}
-use lib.ListN.{take}
+use lib.ListN.{length, take}
 use Rattle.wire.specs.Choice.{pick}
 use Rattle.stream.specs.declared.Input.{Input}
 use Rattle.stream.specs.declared.Input.the-variants.{Bytes, Unreadable}
 use Rattle.stream.specs.declared.Failure.{Failure}
 use Rattle.stream.specs.declared.Failure.the-variants.{Nothing, Reading, Writing, Refused}
+use Rattle.rules.specs.Demand2.{Sections}
 use Rattle.rules.specs.Recording.{listingSettings}
-use Rattle.rules.specs.Send.{SendOutcome, sendingNumber, sendingLength, sentOf, defaultPiece}
+use Rattle.rules.specs.Send.{SendOutcome, sendingNumber, sendingLength, sentOf}
 
 -- what a sending says: its number, and its bytes at the start of its output
 pub record Says (o : SendOutcome) (number : ℕ) (text : List ℕ) : Type 0 where
   pub told : number ≡ sendingNumber (o .sending)
   pub sent : text ≡ take (sendingLength (o .sending)) (o .output)
 
--- all that was read, from b, is one unit, cut with the listing's settings, flag 0 and no piece size; where reading failed, nothing is said
+-- a unit is cut with the listing's settings, flag 0 and pieces of 4,080 bytes, whatever the piece size where none is given: document 02, request 7
+abbrev pub ArchivedUnit : List ℕ → List ℕ → ℕ → List ℕ → Type 0
+ArchivedUnit u out number text = Says (sentOf listingSettings false 4080 u out) number text
+
+-- all that was read, from b, is one unit; where reading failed, nothing is said
 abbrev pub Archived : Input → List ℕ → List ℕ → ℕ → List ℕ → Type 0
-Archived (Bytes n) b out number text = Says (sentOf listingSettings false defaultPiece (take n b) out) number text
+Archived (Bytes n) b out number text = ArchivedUnit (take n b) out number text
 Archived Unreadable b out number text = (number ≡ 0) × (text ≡ [])
 
 -- what has failed, where t says whether the sections are written: reading, the unit, which is refused by that number, or writing
 abbrev pub failureOf : Input → ℕ → Bool → Failure
 failureOf Unreadable number t = Reading
 failureOf (Bytes n) number t = pick (eqb number 0) (pick t Nothing Writing) Refused
+
+-- ---- what request 7 leaves as it was
+-- what is told and sent of a unit, where the output has so much room: a unit of 65,280 bytes still goes out in 16 sections, one of 65,281 gets 52
+pub record By4080 (u : List ℕ) (room number : ℕ) (text : List ℕ) : Type 0 where
+  pub over : (number ≡ 52) ↔ (65280 < length u)
+  pub within : length u + 256 ≤ room → (number ≡ 0) ↔ (length u ≤ 65280)
+  pub sections : number ≡ 0 → Sections listingSettings false 4080 u text
+
+-- a theorem, shown in proofs/Still.antt
+abbrev pub StillBy4080 : Type 0
+StillBy4080 =
+    (u out : List ℕ) (number : ℕ) (text : List ℕ) → length u ≤ 65535 → ArchivedUnit u out number text → By4080 u (length out) number text

@@ -9,10 +9,7 @@ use stream::read_some;
 use stream::write_whole;
 ghost use mathlib.Core.Path.{_≡_};
 ghost use Rattle.stream.specs.Words.{Filled};
-ghost use Rattle.archive.specs.Archive.{Says, Archived, failureOf};
-ghost use Rattle.rules.specs.Recording.{listingSettings};
-ghost use Rattle.rules.specs.Send.{sentOf, defaultPiece};
-ghost use mathlib.Core.Bool.{false};
+ghost use Rattle.archive.specs.Archive.{ArchivedUnit, Archived, failureOf};
 
 // Standard input to its end, or as much as the buffer has room for.
 fn read_input(buffer: &mut [u8]) -> Input
@@ -31,12 +28,14 @@ fn read_input(buffer: &mut [u8]) -> Input
     Input::Bytes(filled)
 }
 
+// What 65,280 bytes need to go out in 16 sections; where none is given, the piece size is smaller.
+const PIECE_SIZE: usize = 4080;
+
 // The unit's sections, which are the first bytes of `out`, and 0, or nothing and the refusal's number.
 fn sections<'a>(unit: &[u8], out: &'a mut [u8], number: &mut u8) -> &'a mut [u8]
-    ensures { λ r. ⌜ Says (sentOf listingSettings false defaultPiece (now (unit .entry)) (now (out .entry)))
-        (now (number .exit)) (now r) ⌝ }
+    ensures { λ r. ⌜ ArchivedUnit (now (unit .entry)) (now (out .entry)) (now (number .exit)) (now r) ⌝ }
 {
-    match sender::send_by_default(recording::listing_settings(), false, unit, out) {
+    match sender::send(recording::listing_settings(), false, PIECE_SIZE, unit, out) {
         Sending::Sent(length) => {
             *number = 0;
             &mut out[..length]

@@ -3,4 +3,5 @@ pub mod Demand2
 pub mod Demand3
 pub mod Readers
 pub mod Samples
+pub mod SmallByDefault
 pub mod Tight

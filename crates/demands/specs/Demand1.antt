@@ -44,13 +44,13 @@ pub record Demand1 : Type 0 where
   -- a gap notice makes any state idle and is never refused
   pub gap : Allowed contracts.gap
       (λ κs a z e. z ≡ Idle)
-  -- where no piece size is given, it is 4,080
+  -- where no piece size is given, it is 1,008
   pub send : Allowed contracts.send
       (λ κs (settings, (llcSnap, (size, (unit, (out, _))))) z (_, (_, (_, (_, (after, _))))).
       Sends settings size (now unit) (now out) (sendingNumber z) (sendingLength z) (now after))
   pub send-by-default : Allowed contracts.send-by-default
       (λ κs (settings, (llcSnap, (unit, (out, _)))) z (_, (_, (_, (after, _)))).
-      Sends settings 4080 (now unit) (now out) (sendingNumber z) (sendingLength z) (now after))
+      Sends settings 1008 (now unit) (now out) (sendingNumber z) (sendingLength z) (now after))
   -- the exported functions: the state is given and handed back as numbers
   pub fossknut-check : Allowed contracts.fossknut-check
       (λ κs (s, _) z e. Numbered z (checkRows (now s)))
@@ -65,4 +65,4 @@ pub record Demand1 : Type 0 where
       Sends (given .settings) (sizeGiven κs a) (given .unit) (given .output) z (gave .length) (gave .output))
   pub fossknut-send-by-default : Allowed contracts.fossknut-send-by-default
       (λ κs a z e. let given = defaultGiven κs a in let gave = defaultGave κs e in
-      Sends (given .settings) 4080 (given .unit) (given .output) z (gave .length) (gave .output))
+      Sends (given .settings) 1008 (given .unit) (given .output) z (gave .length) (gave .output))

@@ -36,13 +36,13 @@ pub record Demand2 : Type 0 where
   -- none of 12 to 19 and 24 applies exactly to what table 3 writes
   pub check : Allowed contracts.check
       (λ κs (s, _) z e. Bytes (now s) → (z ≡ 0) ↔ Sound (now s))
-  -- where no piece size is given, it is 4,080
+  -- where no piece size is given, it is 1,008
   pub send : Allowed contracts.send
       (λ κs (settings, (llcSnap, (size, (unit, (out, _))))) z (_, (_, (_, (_, (after, _))))). sendingNumber z ≡ 0
       → SentRight settings llcSnap size (now unit) (now out) (sendingLength z) (now after))
   pub send-by-default : Allowed contracts.send-by-default
       (λ κs (settings, (llcSnap, (unit, (out, _)))) z (_, (_, (_, (after, _)))). sendingNumber z ≡ 0
-      → SentRight settings llcSnap 4080 (now unit) (now out) (sendingLength z) (now after))
+      → SentRight settings llcSnap 1008 (now unit) (now out) (sendingLength z) (now after))
   -- the exported functions
   pub fossknut-check : Allowed contracts.fossknut-check
       (λ κs (s, _) z e. Bytes (now s) → (z ≡ 0) ↔ Sound (now s))
@@ -51,4 +51,4 @@ pub record Demand2 : Type 0 where
       → SentRight (given .settings) (given .llcSnap) (sizeGiven κs a) (given .unit) (given .output) (gave .length) (gave .output))
   pub fossknut-send-by-default : Allowed contracts.fossknut-send-by-default
       (λ κs a z e. let given = defaultGiven κs a in let gave = defaultGave κs e in z ≡ 0
-      → SentRight (given .settings) (given .llcSnap) 4080 (given .unit) (given .output) (gave .length) (gave .output))
+      → SentRight (given .settings) (given .llcSnap) 1008 (given .unit) (given .output) (gave .length) (gave .output))

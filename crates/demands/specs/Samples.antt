@@ -1,5 +1,5 @@
--- Document 01, 'Samples on the bench': each line marked (P), of the rules themselves, as a row of one table; after them document 02, request 2.
--- Proved in proofs/Samples.antt.
+-- Document 01, 'Samples on the bench': each line marked (P), of the rules themselves, as a row of one table; after them document 02, requests 2
+-- and 7. Proved in proofs/Samples.antt.
 use Prim.Native.Nat.{ℕ}
 use mathlib.Core.Path.{_≡_}
 use mathlib.Core.List.{List, [], _∷_, flatten}
@@ -9,7 +9,7 @@ use Rattle.rules.specs.declared.Settings.{Settings}
 use Rattle.rules.specs.Check.{check}
 use Rattle.rules.specs.Recording.{listingSettings}
 use Rattle.rules.specs.Section.{sealed, sectionOf}
-use Rattle.rules.specs.Send.{sections}
+use Rattle.rules.specs.Send.{defaultPiece, sections, sendingNumber, sentOf}
 use Rattle.rules.specs.Step.{lengthOf, numberOf, Outcome, stepOf}
 use Rattle.rules.specs.Row.{Event, fresh, gap, Held, next, section}
 use Rattle.pes_rules.specs.Packet.{dataOf, readOf}
@@ -48,6 +48,10 @@ indicators byte1 = check (0x3E ∷ byte1 ∷ 13 ∷ replicate 13 0)
 abbrev pub platform : ℕ → ℕ → ℕ
 platform byte1 hash =
     findingNumber (findingOf (own .address) (sealed (0x4C ∷ byte1 ∷ 15 ∷ 0x01 ∷ hash ∷ 0xC1 ∷ 0 ∷ 0 ∷ 0x01 ∷ 0x02 ∷ 0x04 ∷ 0 ∷ 0xF0 ∷ 0 ∷ [])))
+
+-- the sender's answer to a unit of n bytes with no piece size, where the output has room for 16 sections of 1,024 bytes
+abbrev pub byDefault : ℕ → ℕ
+byDefault n = sendingNumber (sentOf own false defaultPiece (replicate n 0) (replicate 16384 0) .sending)
 
 -- ---- the table
 -- what the rules give, and what the papers say
@@ -90,6 +94,10 @@ samples =
     ∷ sample (indicators 0x70 ∷ indicators 0x30 ∷ indicators 0xF0 ∷ indicators 0xB0 ∷ []) (24 ∷ 15 ∷ 15 ∷ 16 ∷ [])
     -- 02, request 2: the INT keeps 15 for bits 01 and 00, and bit 6 is not looked at
     ∷ sample (platform 0x70 0x07 ∷ platform 0x30 0x07 ∷ platform 0xF0 0x07 ∷ []) (15 ∷ 15 ∷ 4 ∷ [])
+    -- 02, request 7: with no piece size and limit 16, 16,128 bytes are sent and 16,129 get 52
+    ∷ sample (byDefault 16128 ∷ byDefault 16129 ∷ []) (0 ∷ 52 ∷ [])
+    -- 02, request 7: with no piece size, the first section of 1,009 bytes starts 3E B3 FD: it has 1,024
+    ∷ sample (take 3 (flatten (sections own false defaultPiece (replicate 1009 0)))) (0x3E ∷ 0xB3 ∷ 0xFD ∷ [])
     ∷ []
 
 -- every row: what the rules give is what the papers say

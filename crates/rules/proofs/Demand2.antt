@@ -14,6 +14,7 @@ use Rattle.rules.specs.declared.Settings.{Settings}
 use Rattle.rules.specs.declared.Key.{Key}
 use Rattle.rules.specs.declared.Address.{Address}
 use Rattle.rules.specs.declared.Answer.the-variants.{Delivered, Stored}
+use Rattle.rules.specs.declared.Sending.the-variants.{Sent}
 use Rattle.rules.specs.Address.{agree, sameAddress}
 use Rattle.rules.specs.Recording.{offers}
 use Rattle.rules.specs.Demand2.{answerAt, Arrives, RoundTrip}
@@ -223,20 +224,25 @@ module _ (c : Settings) (llcSnap : Bool) (n : ℕ) (u out : List ℕ) (a : Accep
         last : (k : ℕ) → k + 1 ≡ count → take (length u) (held count .buffer) ≡ u
         last k h = rw (← h, add-one k) (unit-at k h)
 
+-- cut as the listing cuts, the bytes that are sent are the sections
+pub offers-sent : (c : Settings) (llcSnap : Bool) (n : ℕ) (u out : List ℕ) (m : ℕ) → sentOf c llcSnap n u out .sending ≡ Sent m
+    → offers (take m (sentOf c llcSnap n u out .output)) ≡ sections c llcSnap n u
+unfolding sections
+offers-sent c llcSnap n u out m p =
+    let g : SentAll c llcSnap n u out m = sent-all c llcSnap n u out m p in
+    ap offers (sent-all-bytes c llcSnap n u out m g)
+    ∙ offers-sections (sections c llcSnap n u) (λ i h.
+    let k : i < sectionCount n u = omega (arith, sections-length c llcSnap n u (sectionCount n u)) in
+    rw (sections-at c llcSnap n u (sectionCount n u) i k) (framed c llcSnap n u out (g .accepted) i k))
+
 pub round-trip : RoundTrip
 unfolding sections
 round-trip c llcSnap n u out m p =
     let g : SentAll c llcSnap n u out m = sent-all c llcSnap n u out m p in
     let a = g .accepted in
-    let xs : List (List ℕ) = sections c llcSnap n u in
-    let bytes : take m (sentOf c llcSnap n u out .output) ≡ flatten xs = sent-all-bytes c llcSnap n u out m g in
-    let cut : offers (take m (sentOf c llcSnap n u out .output)) ≡ xs =
-    ap offers bytes
-    ∙ offers-sections xs (λ i h.
-    let k : i < sectionCount n u = omega (arith, sections-length c llcSnap n u (sectionCount n u)) in
-    rw (sections-at c llcSnap n u (sectionCount n u) i k) (framed c llcSnap n u out a i k)) in
+    let bytes : take m (sentOf c llcSnap n u out .output) ≡ flatten (sections c llcSnap n u) = sent-all-bytes c llcSnap n u out m g in
     record {
       sections = sections-sent c llcSnap n u (a .some) _ bytes;
-      offered = cut ∙ sym (sections-are c llcSnap n u (a .some) _ bytes);
+      offered = offers-sent c llcSnap n u out m p ∙ sym (sections-are c llcSnap n u (a .some) _ bytes);
       arrives = λ b h. rw (sections-are c llcSnap n u (a .some) _ bytes) (arrives c llcSnap n u out a b (room-enough b (length u) (a .unit) h));
     }

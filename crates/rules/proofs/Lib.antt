@@ -14,6 +14,7 @@ pub mod Keys
 pub mod Lists
 pub mod Meaning
 pub mod Offer
+pub mod Pieces
 pub mod Read
 pub mod Row
 pub mod Runs

@@ -269,4 +269,4 @@ sender-means c llcSnap size u out n =
     gives-last 0 tt))))) .exactly n)
 
 pub default-means : DefaultMeans
-default-means c llcSnap u out n = sender-means c llcSnap 4080 u out n
+default-means c llcSnap u out n = sender-means c llcSnap 1008 u out n

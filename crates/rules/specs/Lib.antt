@@ -6,6 +6,7 @@ pub mod Recording
 pub mod Demand2
 pub mod Demand3
 pub mod Meaning
+pub mod Pieces
 pub mod Row
 pub mod Section
 pub mod Send

@@ -150,8 +150,8 @@ SenderMeans =
     (c : Settings) (llcSnap : Bool) (size : ℕ) (u out : List ℕ) (n : ℕ)
     → (sendingNumber (sentOf c llcSnap size u out .sending) ≡ n) ↔ FirstThat n (senderRows c size u out)
 
--- where no piece size is given it is 4,080
+-- where no piece size is given it is 1,008: document 02, request 7
 abbrev pub DefaultMeans : Type 0
 DefaultMeans =
     (c : Settings) (llcSnap : Bool) (u out : List ℕ) (n : ℕ)
-    → (sendingNumber (sentOf c llcSnap defaultPiece u out .sending) ≡ n) ↔ FirstThat n (senderRows c 4080 u out)
+    → (sendingNumber (sentOf c llcSnap defaultPiece u out .sending) ≡ n) ↔ FirstThat n (senderRows c 1008 u out)

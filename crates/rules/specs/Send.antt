@@ -75,9 +75,9 @@ sentOf c llcSnap n u out =
     let refusal : ℕ = firstOf (sendLines c llcSnap n u out) in
     pick (eqb refusal 0) (written c llcSnap n u out) (record { sending = Unsent refusal; output = out })
 
--- the piece size where a caller gives none
+-- the piece size where a caller gives none: document 02, request 7
 abbrev pub defaultPiece : ℕ
-defaultPiece = 4080
+defaultPiece = 1008
 
 -- an answer and an output are those of an outcome
 pub record Sends (o : SendOutcome) (r : Sending) (out : List ℕ) : Type 0 where

@@ -120,8 +120,8 @@ pub fn send(settings: Settings, llc_snap: bool, size: usize, unit: &[u8], out: &
     }
 }
 
-// The piece size where a caller gives none.
-const DEFAULT_PIECE: usize = 4080;
+// The piece size where a caller gives none: its sections have 1,024 bytes at most, as many as the field boxes of the second series hold.
+const DEFAULT_PIECE: usize = 1008;
 
 pub fn send_by_default(settings: Settings, llc_snap: bool, unit: &[u8], out: &mut [u8]) -> Sending
     ensures { λ r. ⌜ Sends (sentOf settings «llc_snap» defaultPiece (now (unit .entry)) (now (out .entry))) r (now (out .exit)) ⌝ }

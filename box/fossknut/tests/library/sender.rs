@@ -106,16 +106,16 @@ fn every_length() {
     for (piece_size, step) in [
         (Some(1), 1),
         (Some(16), 1),
-        (Some(1_008), 1),
+        (Some(1_008), 7),
         (Some(4_079), 7),
         (Some(4_080), 1),
-        (None, 17),
+        (None, 1),
     ] {
         let settings = Settings {
             limit: 255,
             ..good_settings(&mut random)
         };
-        let most = 255 * piece_size.unwrap_or(4_080);
+        let most = 255 * piece_size.unwrap_or(1_008);
         for length in (0..=9_000.min(most + 1)).step_by(step) {
             let call = Call {
                 settings,
@@ -138,8 +138,10 @@ fn the_longest_units() {
     for (piece_size, limit, length, number) in [
         (Some(4_080), 17, 65_535, 0),
         (Some(4_080), 16, 65_535, 52),
-        (None, 16, 65_280, 0),
-        (None, 16, 65_281, 52),
+        (Some(4_080), 16, 65_280, 0),
+        (Some(4_080), 16, 65_281, 52),
+        (None, 66, 65_535, 0),
+        (None, 65, 65_535, 52),
         (None, 255, 65_535, 0),
         (None, 255, 65_536, 51),
         (Some(257), 255, 65_535, 0),
@@ -162,15 +164,44 @@ fn the_longest_units() {
     }
 }
 
+/// Without a piece size (02, request 7): 52 exactly where the unit has more than 1,008 bytes for each
+/// section of the limit, and no section has more than 1,024 bytes.
+#[test]
+fn smaller_sections_by_default() {
+    let mut memory = Memory::new();
+    let bytes = Random::new(5).bytes(65_535);
+    let of_the_request = [0, 1, 1_008, 1_009, 16_128, 16_129].map(|length| (16, length));
+    let at_each_limit = (1..=65).flat_map(|limit| [0, 1].map(|more| (limit, 1_008 * limit + more)));
+    for (limit, length) in at_each_limit.chain(of_the_request) {
+        let call = Call {
+            settings: Settings {
+                address: OURS,
+                range: 6,
+                limit,
+            },
+            llc_snap: 0,
+            piece_size: None,
+            unit: &bytes[..length],
+        };
+        let (number, total) = memory.around(&call);
+        let expected = if length > 1_008 * limit { 52 } else { 0 };
+        assert_eq!(number, expected, "{length} bytes, limit {limit}");
+        let (_, output) = call.second(length + 16 * limit);
+        assert!(offers(&output[..total]).all(|(_, section)| section.len() <= 1_024));
+    }
+}
+
 /// The refusals of the sender, in their order.
 const REFUSALS: [u8; 5] = [10, 50, 51, 52, 53];
 
 /// A call to which the refusals of `faults` apply, and no others, and the output buffer's length.
 fn faulty_call<'a>(random: &mut Random, bytes: &'a [u8], faults: &[u8]) -> (Call<'a>, usize) {
     let piece_size = if faults.contains(&50) {
-        random.pick(&[0, 4_081, 4_096, 65_537, 1 << 32 | 16, usize::MAX])
+        Some(random.pick(&[0, 4_081, 4_096, 65_537, 1 << 32 | 16, usize::MAX]))
+    } else if random.one_in(4) {
+        None
     } else {
-        random.between(300, 4_080)
+        Some(random.between(300, 4_080))
     };
     let length = if faults.contains(&51) {
         random.between(65_536, 70_000)
@@ -198,7 +229,7 @@ fn faulty_call<'a>(random: &mut Random, bytes: &'a [u8], faults: &[u8]) -> (Call
     let call = Call {
         settings,
         llc_snap: random.byte(),
-        piece_size: Some(piece_size),
+        piece_size,
         unit: &bytes[..length],
     };
     (call, output_length)
@@ -232,7 +263,7 @@ fn what_the_wrapper_sends_the_wrapper_receives() {
             1 => Some(random.between(1, 4_080)),
             _ => Some(random.between(1, 60)),
         };
-        let longest = settings.limit * piece_size.unwrap_or(4_080);
+        let longest = settings.limit * piece_size.unwrap_or(1_008);
         let unit = &bytes[..random.between(0, longest.min(65_535))];
         let mut output = vec![0; unit.len() + 16 * settings.limit];
         let sent = fossknut::send(&settings, turn % 2 == 0, piece_size, unit, &mut output);
@@ -267,6 +298,7 @@ fn the_wrapper_refuses_by_name() {
     assert_eq!(send(Some(0), &[]), Err(Refusal::PieceSize));
     assert_eq!(send(None, &[0; 65_536]), Err(Refusal::Unit));
     assert_eq!(send(Some(1), &[0; 2]), Err(Refusal::Sections));
+    assert_eq!(send(None, &[0; 1_009]), Err(Refusal::Sections));
     assert_eq!(send(None, &[0]), Err(Refusal::Output));
     let none = fossknut::Settings { limit: 0, ..ours };
     assert_eq!(
