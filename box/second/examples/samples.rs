@@ -109,7 +109,12 @@ fn both_forms() -> Vec<u8> {
 
 /// A unit of 1,009 bytes, one more than a section carries where no piece size is given.
 fn sent_by_default() -> Vec<u8> {
-    let unit: Vec<u8> = b"a night of curves ".iter().copied().cycle().take(1_009).collect();
+    let unit: Vec<u8> = b"a night of curves "
+        .iter()
+        .copied()
+        .cycle()
+        .take(1_009)
+        .collect();
     let mut sections = vec![0; 1_024 + 17];
     let answer = send(&SETTINGS, false, None, &unit, &mut sections);
     assert_eq!((answer.number, answer.length), (0, sections.len()));
