@@ -191,6 +191,20 @@ fn smaller_sections_by_default() {
     }
 }
 
+/// The sample is what the library sends without a piece size.
+#[test]
+fn the_sample_sent_by_default() {
+    let sample = include_bytes!("../../../../samples/sent-by-default.bin");
+    let unit = [&sample[12..1_020], &sample[1_036..1_037]].concat();
+    let call = Call {
+        settings: second::listing::SETTINGS,
+        llc_snap: 0,
+        piece_size: None,
+        unit: &unit,
+    };
+    Memory::new().expect(&call, (0, 1_041), sample);
+}
+
 /// The refusals of the sender, in their order.
 const REFUSALS: [u8; 5] = [10, 50, 51, 52, 53];
 
