@@ -35,7 +35,7 @@ failureOf Unreadable number t = Reading
 failureOf (Bytes n) number t = pick (eqb number 0) (pick t Nothing Writing) Refused
 
 -- ---- what request 7 leaves as it was
--- what is told and sent of a unit, where the output has so much room: a unit of 65,280 bytes still goes out in 16 sections, one of 65,281 gets 52
+-- what is told and sent of a unit: 65,280 bytes still go out in 16 sections, given room for them and 16 bytes beside each piece; 65,281 get 52
 pub record By4080 (u : List ℕ) (room number : ℕ) (text : List ℕ) : Type 0 where
   pub over : (number ≡ 52) ↔ (65280 < length u)
   pub within : length u + 256 ≤ room → (number ≡ 0) ↔ (length u ≤ 65280)

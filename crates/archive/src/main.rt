@@ -28,7 +28,7 @@ fn read_input(buffer: &mut [u8]) -> Input
     Input::Bytes(filled)
 }
 
-// What 65,280 bytes need to go out in 16 sections; where none is given, the piece size is smaller.
+// So that 65,280 bytes go out in 16 sections: where no piece size is given, pieces are smaller.
 const PIECE_SIZE: usize = 4080;
 
 // The unit's sections, which are the first bytes of `out`, and 0, or nothing and the refusal's number.

@@ -20,8 +20,12 @@ pub record InPiecesOf (piece longest : ℕ) (c : Settings) (u : List ℕ) (room 
   -- and no section, cut as the listing cuts, is longer than that
   pub sections : number ≡ 0 → (front back : List (List ℕ)) (s : List ℕ) → offers sent ≡ front ++ (s ∷ back) → length s ≤ longest
 
--- where no piece size is given: 1,008 bytes for each section of the limit, and sections of 1,024 bytes at most
+-- where no piece size is given, a good unit has at most 1,008 bytes for each section of the limit, and a section 1,024: number and total
+-- length, and the output after it
+abbrev pub SmallSections : Settings → List ℕ → List ℕ → ℕ → ℕ → List ℕ → Type 0
+SmallSections c u out number total output = Good c → length u ≤ 65535 → InPiecesOf 1008 1024 c u (length out) number (take total output)
+
 abbrev pub SmallByDefault : Type 0
 SmallByDefault =
-    (c : Settings) (llcSnap : Bool) (u out : List ℕ) → Good c → length u ≤ 65535 → let o : SendOutcome = sentOf c llcSnap defaultPiece u out in
-    InPiecesOf 1008 1024 c u (length out) (sendingNumber (o .sending)) (take (sendingLength (o .sending)) (o .output))
+    (c : Settings) (llcSnap : Bool) (u out : List ℕ) → let o : SendOutcome = sentOf c llcSnap defaultPiece u out in
+    SmallSections c u out (sendingNumber (o .sending)) (sendingLength (o .sending)) (o .output)
