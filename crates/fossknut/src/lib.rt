@@ -116,7 +116,7 @@ pub extern "C" fn fossknut_send(
     answer_numbers::sending_number(sending)
 }
 
-// The same with no piece size given.
+// The same with no piece size given: no section has more than 1,024 bytes.
 #[no_mangle]
 pub extern "C" fn fossknut_send_by_default(
     mac1: u8,
