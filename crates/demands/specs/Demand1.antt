@@ -44,10 +44,10 @@ pub record Demand1 : Type 0 where
   -- a gap notice makes any state idle and is never refused
   pub gap : Allowed contracts.gap
       (λ κs a z e. z ≡ Idle)
-  -- where no piece size is given, it is 1,008
   pub send : Allowed contracts.send
       (λ κs (settings, (llcSnap, (size, (unit, (out, _))))) z (_, (_, (_, (_, (after, _))))).
       Sends settings size (now unit) (now out) (sendingNumber z) (sendingLength z) (now after))
+  -- where no piece size is given, it is 1,008
   pub send-by-default : Allowed contracts.send-by-default
       (λ κs (settings, (llcSnap, (unit, (out, _)))) z (_, (_, (_, (after, _)))).
       Sends settings 1008 (now unit) (now out) (sendingNumber z) (sendingLength z) (now after))

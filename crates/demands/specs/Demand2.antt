@@ -36,10 +36,10 @@ pub record Demand2 : Type 0 where
   -- none of 12 to 19 and 24 applies exactly to what table 3 writes
   pub check : Allowed contracts.check
       (λ κs (s, _) z e. Bytes (now s) → (z ≡ 0) ↔ Sound (now s))
-  -- where no piece size is given, it is 1,008
   pub send : Allowed contracts.send
       (λ κs (settings, (llcSnap, (size, (unit, (out, _))))) z (_, (_, (_, (_, (after, _))))). sendingNumber z ≡ 0
       → SentRight settings llcSnap size (now unit) (now out) (sendingLength z) (now after))
+  -- where no piece size is given, it is 1,008
   pub send-by-default : Allowed contracts.send-by-default
       (λ κs (settings, (llcSnap, (unit, (out, _)))) z (_, (_, (_, (after, _)))). sendingNumber z ≡ 0
       → SentRight settings llcSnap 1008 (now unit) (now out) (sendingLength z) (now after))
