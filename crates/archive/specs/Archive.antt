@@ -21,12 +21,12 @@ pub record Says (o : SendOutcome) (number : ℕ) (text : List ℕ) : Type 0 wher
   pub sent : text ≡ take (sendingLength (o .sending)) (o .output)
 
 -- a unit is cut with the listing's settings, flag 0 and pieces of 4,080 bytes, whatever the piece size where none is given: document 02, request 7
-abbrev pub ArchivedUnit : List ℕ → List ℕ → ℕ → List ℕ → Type 0
-ArchivedUnit u out number text = Says (sentOf listingSettings false 4080 u out) number text
+abbrev pub archivedOf : List ℕ → List ℕ → SendOutcome
+archivedOf u out = sentOf listingSettings false 4080 u out
 
 -- all that was read, from b, is one unit; where reading failed, nothing is said
 abbrev pub Archived : Input → List ℕ → List ℕ → ℕ → List ℕ → Type 0
-Archived (Bytes n) b out number text = ArchivedUnit (take n b) out number text
+Archived (Bytes n) b out number text = Says (archivedOf (take n b) out) number text
 Archived Unreadable b out number text = (number ≡ 0) × (text ≡ [])
 
 -- what has failed, where t says whether the sections are written: reading, the unit, which is refused by that number, or writing
@@ -44,4 +44,4 @@ pub record By4080 (u : List ℕ) (room number : ℕ) (text : List ℕ) : Type 0 
 -- a theorem, shown in proofs/Still.antt
 abbrev pub StillBy4080 : Type 0
 StillBy4080 =
-    (u out : List ℕ) (number : ℕ) (text : List ℕ) → length u ≤ 65535 → ArchivedUnit u out number text → By4080 u (length out) number text
+    (u out : List ℕ) (number : ℕ) (text : List ℕ) → length u ≤ 65535 → Says (archivedOf u out) number text → By4080 u (length out) number text

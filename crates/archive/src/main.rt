@@ -9,7 +9,7 @@ use stream::read_some;
 use stream::write_whole;
 ghost use mathlib.Core.Path.{_≡_};
 ghost use Rattle.stream.specs.Words.{Filled};
-ghost use Rattle.archive.specs.Archive.{ArchivedUnit, Archived, failureOf};
+ghost use Rattle.archive.specs.Archive.{Says, Archived, archivedOf, failureOf};
 
 // Standard input to its end, or as much as the buffer has room for.
 fn read_input(buffer: &mut [u8]) -> Input
@@ -33,7 +33,7 @@ const PIECE_SIZE: usize = 4080;
 
 // The unit's sections, which are the first bytes of `out`, and 0, or nothing and the refusal's number.
 fn sections<'a>(unit: &[u8], out: &'a mut [u8], number: &mut u8) -> &'a mut [u8]
-    ensures { λ r. ⌜ ArchivedUnit (now (unit .entry)) (now (out .entry)) (now (number .exit)) (now r) ⌝ }
+    ensures { λ r. ⌜ Says (archivedOf (now (unit .entry)) (now (out .entry))) (now (number .exit)) (now r) ⌝ }
 {
     match sender::send(recording::listing_settings(), false, PIECE_SIZE, unit, out) {
         Sending::Sent(length) => {
