@@ -37,8 +37,8 @@ findings : (device : Address) (s : List ℕ) (number : ℕ) (Told : Answer → T
 findings device s number Told e told =
     let others = others-give-nothing device s in
     record {
-      means = λ b k. by e (notification-means device s b k);
-      written = λ n c w. told (answerTo device n) (rw w at (written-is-found device n c));
+      means = λ d b k. by e (notification-means device s d b k);
+      written = λ d n c w. told (answerTo device n) (rw w at (written-is-found device n d c));
       taken = λ b h. taken-exactly device s b .0 (rw e at h);
       nobody = λ h. told foundNobody (others .nobody (sym e ∙ h));
       refused = λ j k. told (refusedWith number) (rw e (others .refused (rw e at j) (rw e at k)));

@@ -12,6 +12,7 @@ use Rattle.wire.specs.Bytes.{Bytes}
 use Rattle.wire.specs.Meaning.{FirstThat}
 use Rattle.wire.specs.Part.{Is, Part, part}
 use Rattle.rules.specs.declared.Address.{Address}
+use Rattle.rules.specs.Address.{addressBytes}
 use Rattle.notification_rules.specs.Format.{Answer, answerTo, Conforms, foundNobody, Notification, notificationWritten, refusedWith, Written}
 use Rattle.notification_rules.specs.Meaning.{notificationRows}
 use Rattle.notification_rules.specs.Finding.{findingNumber}
@@ -25,9 +26,9 @@ use Rattle.demands.specs.Contracts as contracts
 -- ---- a device, a section and the number that is told; `Told` says that all that is told is what an answer has
 pub record Findings (device : Address) (s : List ℕ) (number : ℕ) (Told : Answer → Type 0) : Type 0 where
   -- the first of 12 to 18, 30 to 33, 3 and 4 that applies
-  pub means : Bytes s → (k : ℕ) → (number ≡ k) ↔ FirstThat k (notificationRows device s)
+  pub means : Bytes (addressBytes device) → Bytes s → (k : ℕ) → (number ≡ k) ↔ FirstThat k (notificationRows device s)
   -- a section that table 13 writes is answered as its value says, 3 with the nine bytes and their offset
-  pub written : (n : Notification) → Conforms n → notificationWritten n ≡ s → Told (answerTo device n)
+  pub written : Bytes (addressBytes device) → (n : Notification) → Conforms n → notificationWritten n ≡ s → Told (answerTo device n)
   -- and 3 and 4 are answered to no other
   pub taken : Bytes s → (number ≡ 3) ⊎ (number ≡ 4) → Written s
   -- "all but 3 hand back an empty part"

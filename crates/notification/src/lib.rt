@@ -1,6 +1,7 @@
 // The INT reader: what a device finds in an INT section, for every slice of every length.
 mod location;
 mod loops;
+mod range;
 mod target;
 
 use location::Choice;

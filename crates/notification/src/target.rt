@@ -1,41 +1,31 @@
 // The descriptors of a target loop (EN 301 192, tables 24 and 25): whether one of their entries covers a device.
 use crate::loops::after;
+use crate::range::in_range;
 use rules::Address;
-use wire::both;
 use wire::byte_at;
 ghost use mathlib.Core.Path.{_≡_};
-ghost use Prim.Native.Nat.{_≤_};
 ghost use Rattle.wire.specs.Bytes.{Reads, numberAt};
-ghost use Rattle.notification_rules.specs.Target.{addressNumber, sameUnder, inRange, entrySize, entryBytes, hit};
+ghost use Rattle.notification_rules.specs.Target.{addressNumber, sameUnder, entrySize, entryBytes, hit};
 
-// The address at i as 48 bits.
-fn address_at(s: &[u8], i: usize) -> usize
-    requires { ⌜ i ≤ 65535 ⌝ }
-    ensures { λ r. ⌜ Reads (numberAt 6 (now (s .entry)) i) 281474976710656 r ⌝ }
+// The number of the first six bytes: the address there as 48 bits.
+fn u48(s: &[u8]) -> usize
+    ensures { λ r. ⌜ Reads (numberAt 6 (now (s .entry)) 0) 281474976710656 r ⌝ }
 {
-    wire::u16_at(s, i) * 4294967296 + wire::u32_at(s, i + 2)
+    wire::u16_at(s, 0) * 4294967296 + wire::u32_at(s, 2)
 }
 
 fn address_number(a: Address) -> usize
     ensures { λ r. ⌜ r ≡ addressNumber a ⌝ }
 {
-    address_at(&[a.mac1, a.mac2, a.mac3, a.mac4, a.mac5, a.mac6], 0)
+    u48(&[a.mac1, a.mac2, a.mac3, a.mac4, a.mac5, a.mac6])
 }
 
 // The address at the front is the device's under the mask's one bits.
 fn same_under(device: Address, mask: &[u8], e: &[u8]) -> bool
     ensures { λ r. ⌜ r ≡ sameUnder device (now (mask .entry)) (now (e .entry)) ⌝ }
 {
-    let bits = address_at(mask, 0);
-    address_at(e, 0) & bits == address_number(device) & bits
-}
-
-// The device's address is not below the first address nor above the second, by the bytes' order as a number.
-fn in_range(device: Address, e: &[u8]) -> bool
-    ensures { λ r. ⌜ r ≡ inRange device (now (e .entry)) ⌝ }
-{
-    let own = address_number(device);
-    both(address_at(e, 0) <= own, own <= address_at(e, 6))
+    let bits = u48(mask);
+    u48(e) & bits == address_number(device) & bits
 }
 
 // The bytes of an entry: an address, or a lowest and a highest address.

@@ -12,17 +12,19 @@ use lib.Bits.{bitAnd, and-shr, and-mod, and-le-r}
 use lib.Dec.{eqb, leb, lit<}
 use lib.ListN.{length, drop, length-append}
 use borrow.Author.Tests.{eq-eqb, ne-eqb, eqb-true, eqb-false}
-use Rattle.wire.specs.Bytes.{bytesOf, bit, numberAt}
+use Rattle.wire.specs.Bytes.{bytesOf, bit, Bytes, numberAt}
 use Rattle.wire.specs.Choice.{pick, both}
 use Rattle.wire.specs.Part.{Part, part}
-use Rattle.wire.proofs.Bytes.{length-bytesOf, numberAt-bytesOf}
+use Rattle.wire.proofs.Bytes.{append-bytes, bytesOf-bytes, length-bytesOf, numberAt-bytesOf}
 use Rattle.rules.specs.declared.Address.{Address}
+use Rattle.rules.specs.Address.{addressBytes}
 use Rattle.rules.specs.Section.{sealed}
 use Rattle.notification_rules.specs.declared.Finding.{Finding}
 use Rattle.notification_rules.specs.declared.Finding.the-variants.{Found, Nobody}
 use Rattle.notification_rules.specs.Cut.{Cut, isNil, any, fromOffset}
 use Rattle.notification_rules.specs.Loop.{descriptorItems, descriptorsOf, loopsOf, Pair, pairsOf}
-use Rattle.notification_rules.specs.Target.{addressNumber, sameUnder, inRange, covers, by, coverFrom, coverOf, isCover, Location, nowhere, somewhere, located, isLocation, locationOf, answers, firstPair}
+use Rattle.notification_rules.specs.Range.{inRange}
+use Rattle.notification_rules.specs.Target.{addressNumber, sameUnder, covers, by, coverFrom, coverOf, isCover, Location, nowhere, somewhere, located, isLocation, locationOf, answers, firstPair}
 use Rattle.notification_rules.specs.Target as target
 use Rattle.notification_rules.specs.Finding.{found, chosen, searched, findingNumber, findingOf, findingOffset, partOf}
 use Rattle.notification_rules.specs.Format.{Descriptor, masked, ranges, location, other, Loop, Notification, tagOf, rangeWritten, bodyWritten, descriptorWritten, contentWritten, loopWritten, pairWritten, headWritten, notificationWritten, Held, Fits, FitsLoop, Conforms, deviceNumber, sameWhere, one, targets, covered, locationIn, locationTo, foundAt, foundNobody, answerTo, Gives, WrittenIsFound}
@@ -31,6 +33,7 @@ use Rattle.notification_rules.proofs.Items.{covered-any}
 use Rattle.notification_rules.proofs.Parts.{Stands, stands-after, stands-bytes, stands-first, stands-second}
 use Rattle.notification_rules.proofs.Entries.{masks-cover, other-covers, ranges-cover}
 use Rattle.notification_rules.proofs.Found.{unrefused}
+use Rattle.notification_rules.proofs.Range.{in-range-is}
 use Rattle.notification_rules.proofs.Taken.{range-length, loop-content, descriptors-cut, loops-cut, written-is-taken}
 
 -- ---- bit by bit
@@ -108,6 +111,14 @@ device-is : (device : Address) → addressNumber device ≡ deviceNumber device
 unfolding addressNumber numberAt
 device-is device = omega arith
 
+-- a range that was written, byte by byte or by its numbers
+range-is : (device : Address) → Bytes (addressBytes device) → (low high : ℕ) → low < 2 ^ 48 → high < 2 ^ 48
+    → inRange device (rangeWritten (low, high)) ≡ (leb low (deviceNumber device) && leb (deviceNumber device) high)
+unfolding both addressNumber
+range-is device b low high f g =
+    in-range-is device (rangeWritten (low, high)) b (append-bytes (bytesOf 6 low) (bytesOf 6 high) (bytesOf-bytes 6 low) (bytesOf-bytes 6 high))
+    ∙ rw (six low (bytesOf 6 high) f, six-second low high g, device-is device)
+
 -- a test of what was written, and the same of what was meant
 any-one : {A : Type 0} (write : A → List ℕ) (f : List ℕ → Bool) (g : A → Bool) (xs : List A)
     → ((x : A) → List·Memᴰ x xs → f (write x) ≡ g x) → any f (map write xs) ≡ one g xs
@@ -129,27 +140,28 @@ all-long write n h (x ∷ xs) e m = go (all-long write n h xs e) (List·Memᴰ·
     go ih (inl q) = ap (λ (l : List ℕ). length l) q ∙ h x
     go ih (inr k) = ih k
 
-covers-is : (device : Address) (d : Descriptor) → Held d → covers device (descriptorWritten d) ≡ targets (deviceNumber device) d
-unfolding targets bodyWritten sameUnder inRange both
-covers-is device (masked mask xs) h =
+covers-is : (device : Address) → Bytes (addressBytes device) → (d : Descriptor) → Held d
+    → covers device (descriptorWritten d) ≡ targets (deviceNumber device) d
+unfolding targets bodyWritten sameUnder both
+covers-is device b (masked mask xs) h =
     masks-cover device (bytesOf 6 mask) (map (bytesOf 6) xs) (length-bytesOf 6 mask) (all-long (bytesOf 6) 6 (length-bytesOf 6) xs)
     ∙ any-one (bytesOf 6) (sameUnder device (bytesOf 6 mask)) (λ a. sameWhere 48 mask a (deviceNumber device)) xs
     (λ a m. rw (six-alone a (h .1 a m), six-alone mask (h .0), device-is device) (all-bits 48 mask a (deviceNumber device) (h .0)))
-covers-is device (ranges rs) h =
+covers-is device b (ranges rs) h =
     ranges-cover device (map rangeWritten rs) (all-long rangeWritten 12 range-length rs)
     ∙ any-one rangeWritten (inRange device) (λ r. leb (r .0) (deviceNumber device) && leb (deviceNumber device) (r .1)) rs
-    (λ r m. rw (six (r .0) (bytesOf 6 (r .1)) (h r m .0), six-second (r .0) (r .1) (h r m .1), device-is device))
-covers-is device (location l) h = other-covers device (descriptorWritten (location l)) (λ e. omega arith) (λ e. omega arith)
-covers-is device (other t b) h = other-covers device (descriptorWritten (other t b)) (h .1 .0) (h .1 .1)
+    (λ r m. range-is device b (r .0) (r .1) (h r m .0) (h r m .1))
+covers-is device b (location l) h = other-covers device (descriptorWritten (location l)) (λ e. omega arith) (λ e. omega arith)
+covers-is device b (other t c) h = other-covers device (descriptorWritten (other t c)) (h .1 .0) (h .1 .1)
 
 -- ---- a loop that was written
-list-cover : (device : Address) (o : ℕ) (ds : List Descriptor) → ((d : Descriptor) → List·Memᴰ d ds → Fits d)
+list-cover : (device : Address) → Bytes (addressBytes device) → (o : ℕ) (ds : List Descriptor) → ((d : Descriptor) → List·Memᴰ d ds → Fits d)
     → isCover (pick (isNil (contentWritten ds)) (by 0) (coverFrom device (fromOffset o (map descriptorWritten ds)))) ≡ covered (deviceNumber device) ds
 unfolding flatten pick isCover covered
-list-cover device o [] h = refl
-list-cover device o (d ∷ ds) h =
+list-cover device b o [] h = refl
+list-cover device b o (d ∷ ds) h =
     covered-any device o (map descriptorWritten (d ∷ ds))
-    ∙ any-one descriptorWritten (covers device) (targets (deviceNumber device)) (d ∷ ds) (λ e m. covers-is device e (h e m .held))
+    ∙ any-one descriptorWritten (covers device) (targets (deviceNumber device)) (d ∷ ds) (λ e m. covers-is device b e (h e m .held))
 
 module _ (l : Loop) (f : FitsLoop l) where
   items-are : (o : ℕ) → descriptorsOf (part o (loopWritten l)) ≡ fromOffset (o + 2) (map descriptorWritten (l .descriptors))
@@ -158,11 +170,11 @@ module _ (l : Loop) (f : FitsLoop l) where
       ap (λ (b : List ℕ). fromOffset (o + 2) (descriptorItems b)) (loop-content l)
       ∙ ap (λ (c : Cut). fromOffset (o + 2) (c .items)) (descriptors-cut (l .descriptors))
 
-  cover-is : (device : Address) (o : ℕ) → isCover (coverOf device (part o (loopWritten l))) ≡ covered (deviceNumber device) (l .descriptors)
+  cover-is : (device : Address) → Bytes (addressBytes device) → (o : ℕ) → isCover (coverOf device (part o (loopWritten l))) ≡ covered (deviceNumber device) (l .descriptors)
   unfolding coverOf
-  cover-is device o =
-      ap₂ (λ (b : List ℕ) (ds : List Part). isCover (pick (isNil b) (by 0) (coverFrom device ds))) (loop-content l) (items-are o)
-      ∙ list-cover device (o + 2) (l .descriptors) (f .descriptors)
+  cover-is device b o =
+      ap₂ (λ (x : List ℕ) (ds : List Part). isCover (pick (isNil x) (by 0) (coverFrom device ds))) (loop-content l) (items-are o)
+      ∙ list-cover device b (o + 2) (l .descriptors) (f .descriptors)
 
 -- the nine bytes of a 0x13, and their offset
 partAt : Location → Option Part
@@ -203,14 +215,14 @@ pair-is platform true x (somewhere d) e later o h = ap found e
 pair-is platform false x nowhere e later o h = h
 pair-is platform false x (somewhere d) e later o h = h
 
-search-is : (device : Address) (platform : Loop) → FitsLoop platform → (o : ℕ) (ps : List (Loop × Loop))
+search-is : (device : Address) → Bytes (addressBytes device) → (platform : Loop) → FitsLoop platform → (o : ℕ) (ps : List (Loop × Loop))
     → ((p : Loop × Loop) → List·Memᴰ p ps → FitsLoop (p .0) × FitsLoop (p .1))
     → chosen (part 12 (loopWritten platform))
     (firstPair (answers device (part 12 (loopWritten platform))) (pairsOf (fromOffset o (map loopWritten (byTurns ps)))))
     ≡ findingAt (locationTo (deviceNumber device) (locationIn 14 (platform .descriptors)) o ps)
 unfolding byTurns fromOffset pairsOf firstPair locationTo chosen answers locationOf findingAt
-search-is device platform f o [] h = refl
-search-is device platform f o (p ∷ ps) h =
+search-is device b platform f o [] h = refl
+search-is device b platform f o (p ∷ ps) h =
     let here : Part = part 12 (loopWritten platform) in
     let general : Option Part = locationIn 14 (platform .descriptors) in
     let t : ℕ = length (loopWritten (p .0)) in
@@ -224,8 +236,8 @@ search-is device platform f o (p ∷ ps) h =
     let rest : Option Part = locationTo (deviceNumber device) general (o + length (pairWritten p)) ps in
     pair-is here (isCover (coverOf device (x .target))) x (locationOf here x) refl _ rest
     (ap (λ (k : ℕ). chosen here (firstPair (answers device here) (pairsOf (fromOffset k (map loopWritten (byTurns ps)))))) e
-    ∙ search-is device platform f (o + length (pairWritten p)) ps (λ q m. h q (List·Memᴰ·tail m)))
-    ∙ ap₂ (λ (c : Bool) (l : Option Part). findingAt (orElse (cond c l none) rest)) (cover-is (p .0) (fits .0) device o) located-so
+    ∙ search-is device b platform f (o + length (pairWritten p)) ps (λ q m. h q (List·Memᴰ·tail m)))
+    ∙ ap₂ (λ (c : Bool) (l : Option Part). findingAt (orElse (cond c l none) rest)) (cover-is (p .0) (fits .0) device b o) located-so
 
 -- ---- the nine bytes
 record Nine (s : List ℕ) (p : Part) : Type 0 where
@@ -339,15 +351,15 @@ module _ (n : Notification) (t : Conforms n) where
       nine-stands s 14 (n .platform .descriptors) (t .platform .descriptors)
       (content-stands s (n .platform) 12 (stands-first s 12 (loopWritten (n .platform)) pairs loops-stand))
 
-  pub found-is : (device : Address) → Gives device s (answerTo device n)
+  pub found-is : (device : Address) → Bytes (addressBytes device) → Gives device s (answerTo device n)
   unfolding answerTo loopsOf fromOffset searched
-  found-is device =
+  found-is device b =
       gives device s _
       (unrefused device s (written-is-taken n t)
       ∙ ap (λ (c : Cut). searched device (fromOffset 12 (c .items))) (loops-cut n t)
-      ∙ search-is device (n .platform) (t .platform) (12 + length (loopWritten (n .platform))) (n .pairs) (t .pairs))
+      ∙ search-is device b (n .platform) (t .platform) (12 + length (loopWritten (n .platform))) (n .pairs) (t .pairs))
       (pairs-stand s (deviceNumber device) _ general-stands (12 + length (loopWritten (n .platform))) (n .pairs) (t .pairs)
       (stands-second s 12 (loopWritten (n .platform)) pairs loops-stand))
 
 pub written-is-found : WrittenIsFound
-written-is-found device n t = found-is n t device
+written-is-found device n b t = found-is n t device b

@@ -13,11 +13,11 @@ use Rattle.rules.specs.Section.{sealed}
 use Rattle.notification_rules.specs.Format.{bodyWritten, Conforms, contentWritten, Descriptor, descriptorWritten, Fits, FitsLoop, headWritten, Held, location, Loop, loopsWritten, loopWritten, masked, Notification, notificationWritten, other, pairWritten, ranges, rangeWritten, SectionIsBytes, tagOf}
 
 -- one by one
-abbrev Each : List ℕ → Type 0
+abbrev pub Each : List ℕ → Type 0
 Each [] = Unit {0}
 Each (b ∷ s) = (b < 256) × Each s
 
-each-bytes : (s : List ℕ) → Each s → Bytes s
+pub each-bytes : (s : List ℕ) → Each s → Bytes s
 each-bytes [] h = nil-bytes
 each-bytes (b ∷ s) h = cons-bytes b s (h .0) (each-bytes s (h .1))
 

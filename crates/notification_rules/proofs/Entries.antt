@@ -11,7 +11,8 @@ use Rattle.wire.specs.Bytes.{numberAt}
 use Rattle.wire.specs.Choice.{pick}
 use Rattle.notification_rules.specs.Cut.{Cut, cutOf, any}
 use Rattle.rules.specs.declared.Address.{Address}
-use Rattle.notification_rules.specs.Target.{macAddress, macAddressRange, sameUnder, inRange, entrySize, entryBytes, hit, covers}
+use Rattle.notification_rules.specs.Range.{inRange}
+use Rattle.notification_rules.specs.Target.{macAddress, macAddressRange, sameUnder, entrySize, entryBytes, hit, covers}
 use Rattle.notification_rules.specs.Loop.{tag}
 use Rattle.notification_rules.proofs.Items.{stops, entry-some}
 use Rattle.notification_rules.proofs.Written.{cut-back}

@@ -6,20 +6,18 @@ use mathlib.Core.Path.{_≡_, refl, sym, ap, _∙_}
 use mathlib.Core.Logic.{_⊎_, inl, inr}
 use mathlib.Core.List.{List, _++_}
 use mathlib.Core.Bool.{true}
-use mathlib.Core.Option.{Option, none, some, Option·elim}
 use borrow.Author.Tests.{ne-eqb}
 use Rattle.wire.specs.Choice.{both, pick, without}
-use Rattle.wire.specs.Part.{Part}
 use Rattle.wire.proofs.Choice.{firstOf-without}
 use Rattle.rules.specs.declared.Address.{Address}
 use Rattle.rules.specs.Check.{sharedLines, formLines, orderLines}
 use Rattle.notification_rules.specs.declared.Finding.{Finding}
 use Rattle.notification_rules.specs.declared.Finding.the-variants.{Found, Nobody, Refused}
-use Rattle.notification_rules.specs.Format.{Nothing, answerTo, foundAt, foundNobody, Notification, OthersGiveNothing, TakenExactly}
+use Rattle.notification_rules.specs.Format.{Nothing, OthersGiveNothing, TakenExactly}
 use Rattle.notification_rules.specs.Finding.{loopLines, findingNumber, findingOf, findingOffset, notificationForm, partOf, platformLines, refusal}
-use Rattle.notification_rules.proofs.Answered.{written-is-found}
 use Rattle.notification_rules.proofs.Found.{takes}
 use Rattle.notification_rules.proofs.Rewritten.{taken-is-written}
+use Rattle.notification_rules.proofs.Taken.{written-is-taken}
 
 -- ---- the numbers of the lines
 no-line : (n : ℕ) (s : List ℕ) → without n (sharedLines notificationForm s ++ (platformLines s ++ loopLines s)) ≡ true
@@ -41,23 +39,16 @@ not-refused device s h = go (ℕ-discrete (refusal s) 0) h
     go (no e) (inl k) = absurd (no-line 3 s refl (λ z. omega arith) (sym (number-refused device s e) ∙ k))
     go (no e) (inr k) = absurd (no-line 4 s refl (λ z. omega arith) (sym (number-refused device s e) ∙ k))
 
--- ---- a value's answer is 3 or 4
-three-or-four : (o : Option Part) → (Option·elim o foundNobody foundAt .number ≡ 3) ⊎ (Option·elim o foundNobody foundAt .number ≡ 4)
-unfolding Option·elim
-three-or-four none = inr refl
-three-or-four (some p) = inl refl
-
-answer-number : (device : Address) (n : Notification) → (answerTo device n .number ≡ 3) ⊎ (answerTo device n .number ≡ 4)
-unfolding answerTo
-answer-number device n = three-or-four _
+-- ---- what is not refused is answered 3 or 4, whoever asks
+three-or-four : (x : Finding) → ((k : ℕ) → x ≡ Refused k → ⊥) → (findingNumber x ≡ 3) ⊎ (findingNumber x ≡ 4)
+three-or-four (Found p) h = inl refl
+three-or-four Nobody h = inr refl
+three-or-four (Refused k) h = absurd (h k refl)
 
 pub taken-exactly : TakenExactly
 taken-exactly device s b = (
   λ h. taken-is-written s b (not-refused device s h),
-  λ w.
-      let number : findingNumber (findingOf device s) ≡ answerTo device (w .value) .number =
-      ap (λ (x : List ℕ). findingNumber (findingOf device x)) (sym (w .is)) ∙ written-is-found device (w .value) (w .conforms) .number in
-      rw number (answer-number device (w .value)),
+  λ w. three-or-four (findingOf device s) (takes device s (rw (w .is) at (written-is-taken (w .value) (w .conforms)))),
 )
 
 -- ---- any number but 3

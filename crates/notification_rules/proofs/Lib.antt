@@ -8,6 +8,7 @@ pub mod Meaning
 pub mod Parts
 pub mod Items
 pub mod Located
+pub mod Range
 pub mod Reached
 pub mod Rewritten
 pub mod Sound

@@ -17,6 +17,7 @@ use Rattle.wire.specs.Part.{Part}
 use Rattle.wire.proofs.Choice.{both-true, firstOf-past, never, not-first}
 use Rattle.wire.proofs.Meaning.{gives-last, gives-row, or-else, orElse, Tells, tells-eq, tells-not}
 use Rattle.rules.specs.declared.Address.{Address}
+use Rattle.rules.specs.Address.{addressBytes}
 use Rattle.rules.specs.Check.{checksumForm, sharedRefusal, sharedLines, formLines, orderLines, wrongSyntax}
 use Rattle.rules.specs.Section.{sectionSyntaxIndicator}
 use Rattle.rules.proofs.Check.{shared-numbered}
@@ -214,7 +215,7 @@ unfolding pick
 number-pick true x y = refl
 number-pick false x y = refl
 
-module _ (device : Address) (s : List ℕ) (b : Bytes s) where
+module _ (device : Address) (s : List ℕ) (d : Bytes (addressBytes device)) (b : Bytes s) where
   abbrev lines : List Line
   lines = sharedLines notificationForm s ++ (platformLines s ++ loopLines s)
 
@@ -233,7 +234,7 @@ module _ (device : Address) (s : List ℕ) (b : Bytes s) where
   finds-tells r =
       let finding : findingOf device s ≡ sought = rw (eq-eqb (refusal s) 0 r) in
       let number : (w : Written s) → findingNumber sought ≡ answerTo device (w .value) .number =
-      λ w. ap findingNumber (sym finding ∙ ap (findingOf device) (sym (w .is))) ∙ written-is-found device (w .value) (w .conforms) .number in (
+      λ w. ap findingNumber (sym finding ∙ ap (findingOf device) (sym (w .is))) ∙ written-is-found device (w .value) d (w .conforms) .number in (
         λ p. let w = taken-is-written s b r in record { written = w; found = sym (number w) ∙ found-three sought p },
         λ w. three-found sought (searched-number device (loopsOf s)) (number (w .written) ∙ w .found),
       )
@@ -254,12 +255,12 @@ module _ (device : Address) (s : List ℕ) (b : Bytes s) where
 
 pub notification-means : NotificationMeans
 unfolding orElse sharedLines formLines orderLines platformLines loopLines
-notification-means device s b n =
-    rw (number-finding device s b)
+notification-means device s d b n =
+    rw (number-finding device s d b)
     (gives-refusal notificationForm s _ _ (syntax s) (λ h _.
     gives-row _ 30 (action s) (λ e30.
     gives-row _ 31 (hash s) (λ e31.
-    gives-row _ 32 (unfilled-tells device s b) (λ e32.
+    gives-row _ 32 (unfilled-tells device s d b) (λ e32.
     gives-row _ 33 (holds-tells s (filled-exactly s b .0 e32)) (λ e33.
-    gives-row _ 3 (finds-tells device s b (nothing-refused device s b h e30 e31 e32 e33)) (λ _.
+    gives-row _ 3 (finds-tells device s d b (nothing-refused device s d b h e30 e31 e32 e33)) (λ _.
     gives-last 4 tt)))))) .exactly n)

@@ -7,11 +7,13 @@ use mathlib.Core.List.{List, [], _∷_, flatten, List·Memᴰ, List·Memᴰ·not
 use mathlib.Core.Option.{orElse, Option·elim}
 use lib.Dec.{lit<, lit≤}
 use lib.ListN.{length}
-use Rattle.wire.specs.Bytes.{bytesOf}
+use Rattle.wire.specs.Bytes.{Bytes, bytesOf}
+use Rattle.rules.specs.Address.{addressBytes}
 use Rattle.rules.specs.Section.{sealed}
 use Rattle.notification_rules.specs.declared.Finding.{Finding}
 use Rattle.notification_rules.specs.Format.{answerTo, bodyWritten, BothReached, Conforms, covered, Descriptor, Fits, FitsLoop, headWritten, Held, locationIn, locationTo, Loop, notificationWritten, one, Reached, sample, sampleDevice, sameWhere, targets}
 use Rattle.notification_rules.proofs.Answered.{written-is-found}
+use Rattle.notification_rules.proofs.Bytes.{each-bytes}
 
 no-member : {A : Type 0} (good : A → Type 0) (x : A) → List·Memᴰ x [] → good x
 no-member good x m = absurd (List·Memᴰ·not-nil m)
@@ -47,8 +49,11 @@ conforms ds f l =
       size = l;
     }
 
+device-bytes : Bytes (addressBytes sampleDevice)
+device-bytes = each-bytes (addressBytes sampleDevice) (lit< tt, (lit< tt, (lit< tt, (lit< tt, (lit< tt, (lit< tt, tt))))))
+
 reached : (ds : List Descriptor) (x : Finding) → Conforms (sample ds) → answerTo sampleDevice (sample ds) .finding ≡ x → Reached ds x
-reached ds x c e = (c, written-is-found sampleDevice (sample ds) c .finding ∙ e)
+reached ds x c e = (c, written-is-found sampleDevice (sample ds) device-bytes c .finding ∙ e)
 
 -- a target loop of one descriptor
 alone : (d : Descriptor) (x : Finding) → Held d → length (bodyWritten d) < 2 ^ 8 → length (notificationWritten (sample (d ∷ []))) ≤ 4096

@@ -12,6 +12,7 @@ use lib.Dec.{eqb, leb}
 use Rattle.wire.specs.Bytes.{Bytes, bytesOf, bit, bits}
 use Rattle.wire.specs.Part.{Part, part}
 use Rattle.rules.specs.declared.Address.{Address}
+use Rattle.rules.specs.Address.{addressBytes}
 use Rattle.rules.specs.Section.{sealed}
 use Rattle.notification_rules.specs.declared.Finding.{Finding}
 use Rattle.notification_rules.specs.declared.Finding.the-variants.{Found, Nobody, Refused}
@@ -227,7 +228,8 @@ pub record Gives (device : Address) (s : List ℕ) (x : Answer) : Type 0 where
 
 -- what is written is answered as its pairs say
 abbrev pub WrittenIsFound : Type 0
-WrittenIsFound = (device : Address) (n : Notification) → Conforms n → Gives device (notificationWritten n) (answerTo device n)
+WrittenIsFound =
+    (device : Address) (n : Notification) → Bytes (addressBytes device) → Conforms n → Gives device (notificationWritten n) (answerTo device n)
 
 -- and is a list of bytes
 abbrev pub SectionIsBytes : Type 0

@@ -9,6 +9,7 @@ use lib.Bits.{bitXor}
 use Rattle.wire.specs.Bytes.{bit, byteAt, Bytes}
 use Rattle.wire.specs.Meaning.{FirstThat, otherwise, Row, _means_}
 use Rattle.rules.specs.declared.Address.{Address}
+use Rattle.rules.specs.Address.{addressBytes}
 use Rattle.rules.specs.Meaning.{rows12to14, rows16to18}
 use Rattle.notification_rules.specs.Format.{answerTo, bodyWritten, contentWritten, Descriptor, Loop, loopsWritten, tagOf, Written}
 use Rattle.notification_rules.specs.Finding.{findingNumber, findingOf}
@@ -66,4 +67,5 @@ notificationRows device s =
 
 abbrev pub NotificationMeans : Type 0
 NotificationMeans =
-    (device : Address) (s : List ℕ) → Bytes s → (n : ℕ) → (findingNumber (findingOf device s) ≡ n) ↔ FirstThat n (notificationRows device s)
+    (device : Address) (s : List ℕ) → Bytes (addressBytes device) → Bytes s
+    → (n : ℕ) → (findingNumber (findingOf device s) ≡ n) ↔ FirstThat n (notificationRows device s)

@@ -13,6 +13,7 @@ use Rattle.rules.specs.Address.{addressBytes}
 use Rattle.wire.specs.Part.{Part}
 use Rattle.notification_rules.specs.Cut.{cutOf, isNil, any}
 use Rattle.notification_rules.specs.Loop.{tag, body, content, descriptorsOf, Pair}
+use Rattle.notification_rules.specs.Range.{inRange}
 
 -- target_MAC_address_descriptor, target_MAC_address_range_descriptor, IP/MAC_stream_location_descriptor
 abbrev pub macAddress : ℕ
@@ -38,10 +39,6 @@ addressNumber a = numberAt 6 (addressBytes a) 0
 unfoldable pub sameUnder : Address → List ℕ → List ℕ → Bool
 sameUnder device mask e =
     eqb (bitAnd (numberAt 6 e 0) (numberAt 6 mask 0)) (bitAnd (addressNumber device) (numberAt 6 mask 0))
-
--- lowest ≤ device ≤ highest, by the bytes' order as a number
-unfoldable pub inRange : Address → List ℕ → Bool
-inRange device e = both (leb (numberAt 6 e 0) (addressNumber device)) (leb (addressNumber device) (numberAt 6 e 6))
 
 -- ---- the entries of a descriptor that targets: addresses after the mask, or pairs of addresses; other tags have none
 unfoldable pub entrySize : ℕ → ℕ

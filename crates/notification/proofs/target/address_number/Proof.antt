@@ -4,15 +4,15 @@ use borrow.Author.Needs.{needs}
 use Rattle.notification.proofs.target.address_number.Statement.{statement}
 use Rattle.notification.proofs.target.address_number.Tie as tie
 
-slice-aggregate-address-at : tie.Need-slice-aggregate-address-at
-slice-aggregate-address-at c = search needs
+slice-aggregate-u48 : tie.Need-slice-aggregate-u48
+slice-aggregate-u48 c = search needs
 
-address-at-requires : tie.Need-address-at-requires
-address-at-requires c κs = search needs
+u48-requires : tie.Need-u48-requires
+u48-requires c κs = search needs
 
 returns : tie.Need-returns
 unfolding addressNumber
-returns c = c .address-at .ensures .is
+returns c = c .u48 .ensures .is
 
 pub address-number-spec : {M : Type 1} → statement M
-address-number-spec = tie.close (tie.spec slice-aggregate-address-at address-at-requires returns)
+address-number-spec = tie.close (tie.spec slice-aggregate-u48 u48-requires returns)

@@ -4,19 +4,19 @@ use borrow.Author.Needs.{needs}
 use Rattle.notification.proofs.target.same_under.Statement.{statement}
 use Rattle.notification.proofs.target.same_under.Tie as tie
 
-address-at-requires : tie.Need-address-at-requires
-address-at-requires c κs = search needs
+u48-requires : tie.Need-u48-requires
+u48-requires c κs = search needs
 
-address-at-requires-2 : tie.Need-address-at-requires-2
-address-at-requires-2 c κs = search needs
+u48-requires-2 : tie.Need-u48-requires-2
+u48-requires-2 c κs = search needs
 
 address-number-requires : tie.Need-address-number-requires
 address-number-requires c κs = search needs
 
 returns : tie.Need-returns
 unfolding sameUnder
-returns c = rw (c .address-number .ensures, c .before .address-at2 .ensures .is, c .before .before .address-at .ensures .is)
+returns c = rw (c .address-number .ensures, c .before .u482 .ensures .is, c .before .before .u48 .ensures .is)
 
 pub same-under-spec : {M : Type 1} → statement M
 same-under-spec =
-    tie.close (tie.spec address-at-requires address-at-requires-2 address-number-requires returns)
+    tie.close (tie.spec u48-requires u48-requires-2 address-number-requires returns)
