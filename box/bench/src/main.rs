@@ -1,5 +1,7 @@
 //! The speed of the proved library beside plain Rust, warm caches.
 
+#[cfg(feature = "before")]
+mod before;
 mod crc_32;
 mod machine;
 mod notification;

@@ -1,7 +1,5 @@
 //! The INT section, action 0x01 (EN 301 192 clause 7.6, table 13; 01, "The INT section").
 
-use std::ops::RangeInclusive;
-
 use crate::section::CRC_32;
 use crate::tables::slicing_by_16 as crc_32;
 
@@ -204,7 +202,7 @@ impl Descriptor<'_> {
             }
             TARGET_MAC_ADDRESS_RANGE => {
                 let mut pairs = self.bytes.chunks(12);
-                pairs.any(|pair| range(pair).contains(&&device[..]))
+                pairs.any(|pair| in_range(pair, device))
             }
             _ => false,
         }
@@ -215,9 +213,17 @@ fn equal_under(mask: &[u8], address: &[u8], device: [u8; 6]) -> bool {
     (0..6).all(|i| address[i] & mask[i] == device[i] & mask[i])
 }
 
-/// Byte strings of one length are ordered as the numbers are whose most significant byte is first.
-fn range(pair: &[u8]) -> RangeInclusive<&[u8]> {
-    &pair[..6]..=&pair[6..]
+/// "From MAC_addr_low up to and including MAC_addr_high": table 25 has them as numbers of 48 bits.
+fn in_range(pair: &[u8], device: [u8; 6]) -> bool {
+    let (lowest, highest) = pair.split_at(6);
+    (number(lowest)..=number(highest)).contains(&number(&device))
+}
+
+/// The most significant byte is first.
+fn number(address: &[u8]) -> u64 {
+    address
+        .iter()
+        .fold(0, |number, byte| number << 8 | u64::from(*byte))
 }
 
 fn covers(target: &Loop, device: [u8; 6]) -> bool {

@@ -154,19 +154,30 @@ fn any_descriptor(random: &mut Random, device: [u8; 6]) -> Vec<u8> {
     }
 }
 
-/// The device's address, its neighbours, those that differ in one bit, and any.
+/// The device's address, its neighbours, those that differ in one bit or in one byte and all after
+/// it, and any.
 fn near(random: &mut Random, device: [u8; 6]) -> [u8; 6] {
     let number = device
         .iter()
         .fold(0, |number, byte| number << 8 | usize::from(*byte));
-    match random.below(8) {
+    match random.below(10) {
         0 | 1 => device,
         2 => from_number(number.wrapping_add(1)),
         3 => from_number(number.wrapping_sub(1)),
         4 | 5 => from_number(number ^ 1 << random.below(48)),
-        6 => random.pick(&[[0; 6], [0xFF; 6]]),
+        6 | 7 => apart(random, device),
+        8 => random.pick(&[[0; 6], [0xFF; 6]]),
         _ => any_device(random),
     }
+}
+
+/// One up or down in one byte; those after it are all 00 or all FF, so that taken for themselves
+/// they often say the opposite.
+fn apart(random: &mut Random, mut address: [u8; 6]) -> [u8; 6] {
+    let byte = random.below(6);
+    address[byte] = address[byte].wrapping_add(random.pick(&[1, 0xFF]));
+    address[byte + 1..].fill(random.pick(&[0x00, 0xFF]));
+    address
 }
 
 fn any_mask(random: &mut Random) -> [u8; 6] {

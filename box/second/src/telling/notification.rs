@@ -25,6 +25,7 @@ pub fn notifications() -> Vec<Notification> {
         section,
         answer: (number, offset),
     })
+    .chain(ranges())
     .collect()
 }
 
@@ -53,6 +54,10 @@ fn with_stray(section: Vec<u8>, stray: &[u8]) -> Vec<u8> {
 
 fn one_address(mask: [u8; 6], address: [u8; 6]) -> Vec<u8> {
     descriptor(0x07, &[mask, address].concat())
+}
+
+fn range(lowest: [u8; 6], highest: [u8; 6]) -> Vec<u8> {
+    descriptor(0x0E, &[lowest, highest].concat())
 }
 
 #[rustfmt::skip] // one row per line
@@ -129,7 +134,6 @@ fn covering() -> Vec<Row> {
     let next = [0x02, 0x00, 0x5E, 0x10, 0x20, 0x31];
     let before = [0x02, 0x00, 0x5E, 0x10, 0x20, 0x2F];
     let lower_low_bytes = [0x02, 0x00, 0x5F, 0x00, 0x00, 0x00];
-    let range = |lowest: [u8; 6], highest| descriptor(0x0E, &[lowest, highest].concat());
     let no_low_bit = [0xFF, 0xFF, 0xFF, 0xFF, 0xFF, 0xFE];
     let second_of_two = [&one_address(ones, next)[..], &range(OURS, OURS)].concat();
     vec![
@@ -148,6 +152,50 @@ fn covering() -> Vec<Row> {
         ("01: lowest above highest", targeted(&range(next, before)), 4, 0),
         ("01: the second descriptor covers", targeted(&second_of_two), 3, 48),
     ]
+}
+
+/// Two addresses that differ first in one of the six bytes, whatever comes after it: 00 or FF in
+/// either. Who is covered is known by how they are made; nothing here compares them.
+fn ranges() -> Vec<Notification> {
+    let mut found = Vec::new();
+    for byte in 0..6 {
+        for [after_lower, after_higher] in [[0x00, 0x00], [0x00, 0xFF], [0xFF, 0x00], [0xFF, 0xFF]]
+        {
+            let [mut lower, mut higher] = [OURS; 2];
+            higher[byte] += 1;
+            lower[byte + 1..].fill(after_lower);
+            higher[byte + 1..].fill(after_higher);
+            found.extend(ranges_about(lower, higher));
+        }
+    }
+    found
+}
+
+/// Each of two addresses as a device, and the ranges that they are the ends of.
+#[rustfmt::skip] // one row per line
+fn ranges_about(lower: [u8; 6], higher: [u8; 6]) -> impl Iterator<Item = Notification> {
+    let (least, most) = ([0x00; 6], [0xFF; 6]);
+    [
+        ("B20: below lowest", lower, higher, most, 4),
+        ("B20: below highest", lower, least, higher, 3),
+        ("B20: below both, which are equal", lower, higher, higher, 4),
+        ("B20: the lowest", lower, lower, higher, 3),
+        ("B20: the lowest and the highest", lower, lower, lower, 3),
+        ("B20: the highest, with lowest above it", lower, higher, lower, 4),
+        ("B20: above lowest", higher, lower, most, 3),
+        ("B20: above highest", higher, least, lower, 4),
+        ("B20: above both, which are equal", higher, lower, lower, 4),
+        ("B20: the highest", higher, lower, higher, 3),
+        ("B20: the highest and the lowest", higher, higher, higher, 3),
+        ("B20: the lowest, with highest below it", higher, higher, lower, 4),
+    ]
+    .into_iter()
+    .map(|(source, device, lowest, highest, number)| Notification {
+        source,
+        device,
+        section: targeted(&range(lowest, highest)),
+        answer: (number, if number == 3 { 34 } else { 0 }),
+    })
 }
 
 #[rustfmt::skip] // one row per line
