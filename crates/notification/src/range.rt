@@ -45,11 +45,9 @@ fn at_most(a: Address, b: Address) -> bool
     true
 }
 
-// The device's address is neither below MAC_addr_low nor above MAC_addr_high, which stand one after the other.
+// The device's address is neither below MAC_addr_low, which stands at 0 of a pair, nor above MAC_addr_high, which stands at 6.
 pub fn in_range(device: Address, e: &[u8]) -> bool
     ensures { λ r. ⌜ r ≡ inRange device (now (e .entry)) ⌝ }
 {
-    let lowest = address_at(e, 0);
-    let highest = address_at(e, 6);
-    at_most(lowest, device) && at_most(device, highest)
+    at_most(address_at(e, 0), device) && at_most(device, address_at(e, 6))
 }

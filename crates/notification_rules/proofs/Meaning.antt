@@ -215,7 +215,7 @@ unfolding pick
 number-pick true x y = refl
 number-pick false x y = refl
 
-module _ (device : Address) (s : List ℕ) (d : Bytes (addressBytes device)) (b : Bytes s) where
+module _ (device : Address) (s : List ℕ) (b : Bytes s) where
   abbrev lines : List Line
   lines = sharedLines notificationForm s ++ (platformLines s ++ loopLines s)
 
@@ -229,9 +229,9 @@ module _ (device : Address) (s : List ℕ) (d : Bytes (addressBytes device)) (b 
       ∙ or-else lines (findingNumber sought) refl
       ∙ ap (orElse lines) (searched-number device (loopsOf s))
 
-  finds-tells : refusal s ≡ 0 → Tells (isFound sought) (Finds device s)
+  finds-tells : Bytes (addressBytes device) → refusal s ≡ 0 → Tells (isFound sought) (Finds device s)
   unfolding findingOf pick
-  finds-tells r =
+  finds-tells d r =
       let finding : findingOf device s ≡ sought = rw (eq-eqb (refusal s) 0 r) in
       let number : (w : Written s) → findingNumber sought ≡ answerTo device (w .value) .number =
       λ w. ap findingNumber (sym finding ∙ ap (findingOf device) (sym (w .is))) ∙ written-is-found device (w .value) d (w .conforms) .number in (
@@ -256,11 +256,11 @@ module _ (device : Address) (s : List ℕ) (d : Bytes (addressBytes device)) (b 
 pub notification-means : NotificationMeans
 unfolding orElse sharedLines formLines orderLines platformLines loopLines
 notification-means device s d b n =
-    rw (number-finding device s d b)
+    rw (number-finding device s b)
     (gives-refusal notificationForm s _ _ (syntax s) (λ h _.
     gives-row _ 30 (action s) (λ e30.
     gives-row _ 31 (hash s) (λ e31.
-    gives-row _ 32 (unfilled-tells device s d b) (λ e32.
+    gives-row _ 32 (unfilled-tells device s b) (λ e32.
     gives-row _ 33 (holds-tells s (filled-exactly s b .0 e32)) (λ e33.
-    gives-row _ 3 (finds-tells device s d b (nothing-refused device s d b h e30 e31 e32 e33)) (λ _.
+    gives-row _ 3 (finds-tells device s b d (nothing-refused device s b h e30 e31 e32 e33)) (λ _.
     gives-last 4 tt)))))) .exactly n)
