@@ -14,13 +14,13 @@ use Rattle.wire.proofs.Bytes.{numberAt-lt}
 use Rattle.wire.proofs.Choice.{both-true, not-pick, yes-pick}
 use Rattle.rules.specs.declared.Address.{Address}
 use Rattle.rules.specs.Address.{addressBytes}
-use Rattle.notification_rules.specs.Range.{addressAt, atMost, differ, inRange, RangeMeans}
+use Rattle.notification_rules.specs.Range.{addressAt, atMost, inRange, RangeMeans, unequal}
 
 -- ---- the code's steps: bytes that differ decide, those that are equal leave it to the rest
-pub differs : {x y : ℕ} (rest : Bool) → x ≢ y → ltb x y ≡ pick (differ x y) (ltb x y) rest
+pub differs : {x y : ℕ} (rest : Bool) → x ≢ y → ltb x y ≡ pick (unequal x y) (ltb x y) rest
 differs {x} {y} rest h = yes-pick _ rest (ap not (ne-eqb x y h)) refl
 
-pub equals : {x y : ℕ} {m rest : Bool} → x ≡ y → m ≡ rest → m ≡ pick (differ x y) (ltb x y) rest
+pub equals : {x y : ℕ} {m rest : Bool} → x ≡ y → m ≡ rest → m ≡ pick (unequal x y) (ltb x y) rest
 equals {x} {y} e h = not-pick _ _ (ap not (eq-eqb x y e)) h
 
 -- ---- numbers
@@ -31,8 +31,8 @@ same-front w u v = go (leb u v) refl
     go true e = sym (le-leb (w + u) (w + v) (omega (arith, leb-true u v e)))
     go false e = sym (lt-leb (w + u) (w + v) (omega (arith, leb-false u v e)))
 
--- two numbers of a digit and a rest each: the digits decide where they differ, else the rests
-digit-leb : (c x y u v : ℕ) → u < c → v < c → pick (differ x y) (ltb x y) (leb u v) ≡ leb (x * c + u) (y * c + v)
+-- two numbers of a digit and a rest each: the digits decide where they unequal, else the rests
+digit-leb : (c x y u v : ℕ) → u < c → v < c → pick (unequal x y) (ltb x y) (leb u v) ≡ leb (x * c + u) (y * c + v)
 unfolding pick
 digit-leb c x y u v h k = go (eqb x y) refl (ltb x y) refl
   where
@@ -48,13 +48,13 @@ digit-leb c x y u v h k = go (eqb x y) refl (ltb x y) refl
 -- n bytes at i and n at j, compared from the top
 unfoldable order : ℕ → List ℕ → ℕ → List ℕ → ℕ → Bool
 order zero s i t j = true
-order (suc n) s i t j = pick (differ (byteAt s i) (byteAt t j)) (ltb (byteAt s i) (byteAt t j)) (order n s (i + 1) t (j + 1))
+order (suc n) s i t j = pick (unequal (byteAt s i) (byteAt t j)) (ltb (byteAt s i) (byteAt t j)) (order n s (i + 1) t (j + 1))
 
 order-is : (n : ℕ) (s : List ℕ) (i : ℕ) (t : List ℕ) (j : ℕ) → Bytes s → Bytes t → order n s i t j ≡ leb (numberAt n s i) (numberAt n t j)
 unfolding order numberAt
 order-is zero s i t j h k = refl
 order-is (suc n) s i t j h k =
-    ap (pick (differ (byteAt s i) (byteAt t j)) (ltb (byteAt s i) (byteAt t j))) (order-is n s (i + 1) t (j + 1) h k)
+    ap (pick (unequal (byteAt s i) (byteAt t j)) (ltb (byteAt s i) (byteAt t j))) (order-is n s (i + 1) t (j + 1) h k)
     ∙ digit-leb (256 ^ n) (byteAt s i) (byteAt t j) _ _ (numberAt-lt n s (i + 1) h) (numberAt-lt n t (j + 1) k)
 
 -- the test, and the same of numbers

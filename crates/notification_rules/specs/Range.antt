@@ -23,18 +23,18 @@ addressAt s i =
       mac6 = byteAt s (i + 5);
     }
 
-abbrev pub differ : ℕ → ℕ → Bool
-differ x y = not (eqb x y)
+abbrev pub unequal : ℕ → ℕ → Bool
+unequal x y = not (eqb x y)
 
 -- a is at most b, compared byte by byte from the top: the first byte that differs decides, and where none does, they are equal
 unfoldable pub atMost : Address → Address → Bool
 atMost a b =
-    pick (differ (a .mac1) (b .mac1)) (ltb (a .mac1) (b .mac1))
-    (pick (differ (a .mac2) (b .mac2)) (ltb (a .mac2) (b .mac2))
-    (pick (differ (a .mac3) (b .mac3)) (ltb (a .mac3) (b .mac3))
-    (pick (differ (a .mac4) (b .mac4)) (ltb (a .mac4) (b .mac4))
-    (pick (differ (a .mac5) (b .mac5)) (ltb (a .mac5) (b .mac5))
-    (pick (differ (a .mac6) (b .mac6)) (ltb (a .mac6) (b .mac6)) true)))))
+    pick (unequal (a .mac1) (b .mac1)) (ltb (a .mac1) (b .mac1))
+    (pick (unequal (a .mac2) (b .mac2)) (ltb (a .mac2) (b .mac2))
+    (pick (unequal (a .mac3) (b .mac3)) (ltb (a .mac3) (b .mac3))
+    (pick (unequal (a .mac4) (b .mac4)) (ltb (a .mac4) (b .mac4))
+    (pick (unequal (a .mac5) (b .mac5)) (ltb (a .mac5) (b .mac5))
+    (pick (unequal (a .mac6) (b .mac6)) (ltb (a .mac6) (b .mac6)) true)))))
 
 -- "from MAC_addr_low up to and including MAC_addr_high", which stand one after the other: lowest ≤ device ≤ highest
 unfoldable pub inRange : Address → List ℕ → Bool
