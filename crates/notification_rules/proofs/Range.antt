@@ -31,7 +31,7 @@ same-front w u v = go (leb u v) refl
     go true e = sym (le-leb (w + u) (w + v) (omega (arith, leb-true u v e)))
     go false e = sym (lt-leb (w + u) (w + v) (omega (arith, leb-false u v e)))
 
--- two numbers of a digit and a rest each: the digits decide where they unequal, else the rests
+-- two numbers of a digit and a rest each: the digits decide where they differ, else the rests
 digit-leb : (c x y u v : ℕ) → u < c → v < c → pick (unequal x y) (ltb x y) (leb u v) ≡ leb (x * c + u) (y * c + v)
 unfolding pick
 digit-leb c x y u v h k = go (eqb x y) refl (ltb x y) refl
