@@ -1,8 +1,9 @@
 //! The boundary to the static library, and the only unsafe code of this crate.
 //!
 //! No compiler checks these declarations against the library, so `scripts/boundary` does: a `&[u8]`
-//! there is two arguments here, pointer and length. The functions behind them are for any numbers,
-//! good or not; the tests call them with such as the wrapper never makes.
+//! there is two arguments here, pointer and length, and a `&mut [u8; 16]` one pointer. The functions
+//! behind them are for any numbers and bytes, good or not; the tests call them with such as the
+//! wrapper never makes.
 
 use crate::Settings;
 
@@ -18,24 +19,14 @@ extern "C" {
         mac6: u8,
         range: usize,
         limit: usize,
-        run: *mut u8,
-        next: *mut usize,
-        last: *mut usize,
-        filled: *mut usize,
-        llc_snap: *mut u8,
+        state: *mut [u8; 16],
         section: *const u8,
         section_length: usize,
         buffer: *mut u8,
         buffer_length: usize,
         length: *mut usize,
     ) -> u8;
-    fn fossknut_gap(
-        run: *mut u8,
-        next: *mut usize,
-        last: *mut usize,
-        filled: *mut usize,
-        llc_snap: *mut u8,
-    );
+    fn fossknut_gap(state: *mut [u8; 16]);
     fn fossknut_send(
         mac1: u8,
         mac2: u8,
@@ -103,18 +94,32 @@ macro_rules! with_address {
 /// What a number holds that the library has to write, whatever it answers.
 const UNWRITTEN: usize = usize::MAX;
 
-/// A receiver's state in numbers: idle where `run` is 0, the flag set where `llc_snap` is not.
+/// A receiver's state in the library's sixteen bytes, under their names: idle where `run` is 0, the
+/// flag set where `llc_snap` is not. Numbers stand high byte first, the address as printed.
 ///
-/// Any numbers may be given. Those that the library gives back are a state's: `run` and `llc_snap` are
+/// Any bytes may be given. Those that the library gives back are a state's: `run` and `llc_snap` are
 /// 0 or 1, and beside a `run` of 0 all are 0. So answer 2, which leaves the state as given,
-/// rewrites numbers that no state has: 7 in `run` becomes 1.
+/// rewrites bytes that no state has: 7 in `run` becomes 1.
+#[repr(C)]
 #[derive(Clone, Copy, Debug, Default, PartialEq, Eq)]
 pub(crate) struct State {
     pub(crate) run: u8,
-    pub(crate) next: usize,
-    pub(crate) last: usize,
-    pub(crate) filled: usize,
     pub(crate) llc_snap: u8,
+    pub(crate) next: [u8; 2],
+    pub(crate) last: [u8; 2],
+    pub(crate) filled: [u8; 4],
+    /// The full address of the run's number 0.
+    pub(crate) address: [u8; 6],
+}
+
+impl State {
+    /// The sixteen bytes, to lend to the library.
+    fn bytes(&mut self) -> *mut [u8; 16] {
+        // Fields of single bytes leave no gap between them.
+        const _: () = assert!(std::mem::size_of::<State>() == 16);
+        let state: *mut Self = self;
+        state.cast()
+    }
 }
 
 pub(crate) fn crc_32(bytes: &[u8]) -> u32 {
@@ -136,19 +141,15 @@ pub(crate) fn receive(
     buffer: &mut [u8],
 ) -> (u8, usize) {
     let mut length = UNWRITTEN;
-    // SAFETY: each pointer and length are those of one slice, and the other pointers those of
-    // numbers; no two of them overlap, and none is kept. `section` is only read.
+    // SAFETY: each pointer and length are those of one slice, and the other pointers those of a state
+    // and a number; no two of them overlap, and none is kept. `section` is only read.
     let number = unsafe {
         with_address!(
             settings.address,
             fossknut_receive(
                 settings.range,
                 settings.limit,
-                &mut state.run,
-                &mut state.next,
-                &mut state.last,
-                &mut state.filled,
-                &mut state.llc_snap,
+                state.bytes(),
                 section.as_ptr(),
                 section.len(),
                 buffer.as_mut_ptr(),
@@ -161,16 +162,8 @@ pub(crate) fn receive(
 }
 
 pub(crate) fn gap(state: &mut State) {
-    // SAFETY: pointers to five numbers, none of which is kept.
-    unsafe {
-        fossknut_gap(
-            &mut state.run,
-            &mut state.next,
-            &mut state.last,
-            &mut state.filled,
-            &mut state.llc_snap,
-        );
-    }
+    // SAFETY: a pointer to a state, which is not kept.
+    unsafe { fossknut_gap(state.bytes()) }
 }
 
 /// The answer's number, and the length of the sections. `llc_snap` is set where it is not 0.

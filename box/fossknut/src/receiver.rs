@@ -10,6 +10,11 @@ use crate::{Refusal, Settings};
 /// joined: a slice that is lent, an array, a vector. A unit has up to 65,535 bytes; of a longer
 /// buffer the rest is never touched.
 ///
+/// A unit belongs to one full address. Where the [range](Settings::range) is below 6, the sections of
+/// sisters are taken too, addresses that are the own where compared: number 0 of any of them starts a
+/// unit and forgets the open one, and another number is refused if its address is not the open
+/// unit's.
+///
 /// ```
 /// use fossknut::{Answer, Receiver, Refusal, Settings};
 ///

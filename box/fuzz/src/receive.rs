@@ -1,7 +1,9 @@
 //! The receiver: rows of sections and gap notices, the state handed on.
 
 use second::generator::mutated;
-use second::generator::rows::{any_row, any_settings, any_state, good_state, nearly_continuing};
+use second::generator::rows::{
+    any_own_address, any_row, any_settings, any_state, good_state, nearly_continuing,
+};
 use second::random::Random;
 use second::receiver::{room, Answer, Receiver, Run};
 use second::row::{whole_runs, Event};
@@ -11,7 +13,7 @@ use crate::ffi::{self, State};
 use crate::memory::{same, Memory};
 use crate::numbers;
 
-/// What a receiver starts with, its state also in numbers, and what it is given.
+/// What a receiver starts with, its state also in bytes, and what it is given.
 #[derive(Debug)]
 pub struct Row {
     start: Receiver,
@@ -28,11 +30,12 @@ pub fn input(random: &mut Random) -> Row {
             events: row.events,
         };
     }
+    let settings = any_settings(random);
     let run = match random.below(3) {
-        0 => any_state(random),
-        _ => good_state(random),
+        0 => any_state(random, &settings),
+        _ => good_state(random, &settings),
     };
-    // READINGS A12: any number but 0 is a 1; what else an idle state has does not matter.
+    // READINGS A12: any number but 0 is a 1; B12: what else an idle state has does not matter.
     let state = State {
         run: random.pick(&[0, 0, 1, 2, 255]),
         llc_snap: u8::from(run.llc_snap) * random.pick(&[1, 2, 255]),
@@ -40,7 +43,7 @@ pub fn input(random: &mut Random) -> Row {
     };
     let buffer_length = any_buffer_length(random, run.filled);
     let start = Receiver {
-        settings: any_settings(random),
+        settings,
         state: (state.run != 0).then_some(run),
         buffer: random.repeated(buffer_length),
     };
@@ -77,6 +80,7 @@ fn nearly_right(random: &mut Random, receiver: &mut Receiver) -> Event {
         last: random.pick(&[few, few, few, limit.saturating_sub(1), limit]),
         filled: 0,
         llc_snap: random.one_in(2),
+        address: any_own_address(random, &receiver.settings),
     };
     let run = receiver.state.unwrap_or(first);
     let left = room(receiver.buffer.len()).saturating_sub(run.filled);

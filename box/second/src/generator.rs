@@ -62,6 +62,13 @@ pub fn set_indicators(section: &mut [u8], indicators: u8) {
     section[1] = (indicators << 6) | (section[1] & 0x3F);
 }
 
+/// Writes the address, given as printed: MAC_address_1 to 4 into bytes 11 to 8, 5 and 6 into 4 and 3.
+pub fn set_address(section: &mut [u8], address: [u8; 6]) {
+    for (place, byte) in [11, 10, 9, 8, 4, 3].into_iter().zip(address) {
+        section[place] = byte;
+    }
+}
+
 /// Makes CRC_32 right.
 pub fn seal(section: &mut [u8]) {
     let (before, field) = section.split_at_mut(section.len() - CRC_32);

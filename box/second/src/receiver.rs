@@ -1,4 +1,5 @@
-//! The receiver (01, "The receiver"): settings, the run's state, and one step for each section.
+//! The receiver (01, "The receiver"; 02, request 5): settings, the run's state, and one step for each
+//! section.
 
 use crate::check;
 use crate::section::Section;
@@ -20,10 +21,10 @@ impl Settings {
         (1..=6).contains(&self.range) && (1..=255).contains(&self.limit)
     }
 
-    /// Whether the compared bytes of `section`'s address are the own ones; of good settings only.
-    pub fn are_addressed_by(&self, section: &Section) -> bool {
+    /// Whether the compared bytes of `address` are the own ones; of good settings only.
+    pub fn are_addressed_by(&self, address: [u8; 6]) -> bool {
         let from = 6 - self.range;
-        section.mac_address()[from..] == self.address[from..]
+        address[from..] == self.address[from..]
     }
 
     /// The first of 20 and 21 that applies to `section`, which is sound and addressed to us.
@@ -49,15 +50,18 @@ pub struct Run {
     pub filled: usize,
     /// LLC_SNAP_flag.
     pub llc_snap: bool,
+    /// The full address of its number 0, as printed.
+    pub address: [u8; 6],
 }
 
 impl Run {
-    /// Whether an open state is good.
-    pub fn is_good(&self) -> bool {
+    /// Whether an open state is good, by settings that are.
+    pub fn is_good(&self, settings: &Settings) -> bool {
         (1..=self.last).contains(&self.next)
             && self.last <= 254
             && self.filled <= 65_535
             && self.filled <= 4_080 * self.next
+            && settings.are_addressed_by(self.address)
     }
 }
 
@@ -118,7 +122,7 @@ impl Receiver {
         if !self.settings.are_good() {
             return 10;
         }
-        if self.state.map_or(false, |run| !run.is_good()) {
+        if self.state.map_or(false, |run| !run.is_good(&self.settings)) {
             return 11;
         }
         let fault = check(bytes);
@@ -126,7 +130,7 @@ impl Receiver {
             return fault;
         }
         let section = Section(bytes);
-        if !self.settings.are_addressed_by(&section) {
+        if !self.settings.are_addressed_by(section.mac_address()) {
             return 2;
         }
         if let Some(bar) = self.settings.bar(&section) {
@@ -149,7 +153,8 @@ impl Receiver {
         let run = self.state?;
         let goes_on = usize::from(section.section_number()) == run.next
             && usize::from(section.last_section_number()) == run.last
-            && (section.llc_snap_flag() == 1) == run.llc_snap;
+            && (section.llc_snap_flag() == 1) == run.llc_snap
+            && section.mac_address() == run.address;
         goes_on.then_some(run.filled)
     }
 
@@ -169,6 +174,7 @@ impl Receiver {
             last,
             filled: end,
             llc_snap: section.llc_snap_flag() == 1,
+            address: section.mac_address(),
         });
         0
     }
@@ -177,6 +183,7 @@ impl Receiver {
 #[cfg(test)]
 mod tests {
     use super::*;
+    use crate::listing::SETTINGS;
     use crate::row::Event;
     use crate::telling::rows;
 
@@ -209,15 +216,16 @@ mod tests {
             last: 1,
             filled: 4_080,
             llc_snap: false,
+            address: SETTINGS.address,
         };
-        assert!(good.is_good());
+        assert!(good.is_good(&SETTINGS));
         assert!(Run {
             next: 254,
             last: 254,
             filled: 65_535,
             ..good
         }
-        .is_good());
+        .is_good(&SETTINGS));
         for bad in [
             Run { next: 0, ..good },
             Run { next: 2, ..good },
@@ -238,7 +246,16 @@ mod tests {
                 ..good
             },
         ] {
-            assert!(!bad.is_good(), "{bad:?}");
+            assert!(!bad.is_good(&SETTINGS), "{bad:?}");
+        }
+        for range in 1..=6 {
+            let settings = Settings { range, ..SETTINGS };
+            for place in 0..6 {
+                let mut kept = good;
+                kept.address[place] ^= 1;
+                let is_compared = place >= 6 - range;
+                assert_eq!(kept.is_good(&settings), !is_compared, "{place} of {range}");
+            }
         }
     }
 }

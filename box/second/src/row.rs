@@ -2,7 +2,8 @@
 //!
 //! Strike out the sound sections for other addresses: they hand over nothing. At any other event a
 //! datagram is handed over exactly when the struck row ends there in a whole run, and it is the
-//! payloads joined.
+//! payloads joined. The sections of a run share all six bytes of their address (02, request 5);
+//! other addresses are those that differ where compared.
 
 use crate::check;
 use crate::receiver::{room, Settings};
@@ -57,7 +58,7 @@ fn kind<'a>(settings: &Settings, event: &'a Event) -> Kind<'a> {
     match event {
         Event::Section(bytes) if check(bytes) == 0 => {
             let section = Section(bytes);
-            if !settings.are_addressed_by(&section) {
+            if !settings.are_addressed_by(section.mac_address()) {
                 Kind::Struck
             } else if settings.bar(&section).is_none() {
                 Kind::Receivable(section)
@@ -90,13 +91,14 @@ fn ending_at(kinds: &[Kind], at: usize, room: usize) -> Option<Whole> {
     found
 }
 
-/// Numbers 0 to L in order, one L, one flag, and a unit that fits.
+/// Numbers 0 to L in order, one full address, one L, one flag, and a unit that fits.
 fn is_whole(stretch: &[(usize, &Section)], room: usize) -> bool {
     let first = stretch[0].1;
     let length = stretch.iter().map(|(_, section)| section.payload().len());
     stretch.len() == usize::from(first.last_section_number()) + 1
         && stretch.iter().zip(0..).all(|((_, section), number)| {
             section.section_number() == number
+                && section.mac_address() == first.mac_address()
                 && section.last_section_number() == first.last_section_number()
                 && section.llc_snap_flag() == first.llc_snap_flag()
         })
@@ -121,6 +123,7 @@ mod tests {
     use crate::listing::SETTINGS;
     use crate::random::Random;
     use crate::receiver::Receiver;
+    use crate::telling::{rows, Row};
 
     /// The row by the receiver's steps, one after the other.
     fn by_steps(
@@ -159,6 +162,22 @@ mod tests {
         }
         assert!(handed_over > 20_000, "{handed_over}");
         assert!(joined > 10_000, "{joined}");
+    }
+
+    #[test]
+    fn as_the_answers_of_telling_rows_say() {
+        let is_fresh = |row: &Row| row.state.is_none() && row.settings.are_good();
+        for row in rows().into_iter().filter(is_fresh) {
+            let whole = whole_runs(&row.settings, row.buffer_length, &row.events);
+            let whole = row.events.iter().zip(whole);
+            let handed_over = whole.filter_map(|(event, whole)| match event {
+                Event::Section(_) => Some(whole.map(|run| run.unit.len())),
+                Event::Gap => None,
+            });
+            let answers = row.answers.iter();
+            let wanted = answers.map(|&(number, length)| (number == 0).then_some(length));
+            assert!(handed_over.eq(wanted), "{}", row.source);
+        }
     }
 
     #[test]

@@ -1,13 +1,18 @@
--- Settings and a receiver's state as numbers, for callers that have neither structs nor enums.
+-- Settings as numbers and a receiver's state as bytes, for callers that have neither structs nor enums.
 use Prim.Native.Nat.{ℕ}
 use mathlib.Core.Path.{_≡_}
+use mathlib.Core.List.{List, _∷_, _++_}
 use mathlib.Core.Bool.{Bool, not}
+use lib.ListN.{replicate}
 use lib.Dec.{eqb}
+use Rattle.wire.specs.Bytes.{byteAt, bytesOf, numberAt}
 use Rattle.wire.specs.Choice.{pick}
 use Rattle.rules.specs.declared.Address.{Address}
 use Rattle.rules.specs.declared.Settings.{Settings}
 use Rattle.rules.specs.declared.State.{State}
 use Rattle.rules.specs.declared.State.the-variants.{Idle, Open}
+use Rattle.rules.specs.Address.{addressAt, addressBytes}
+use Rattle.rules.specs.Meaning.{GoodState}
 
 -- an address in printed order, MAC_address_1 first
 abbrev pub addressOf : ℕ → ℕ → ℕ → ℕ → ℕ → ℕ → Address
@@ -20,30 +25,26 @@ settingsOf m1 m2 m3 m4 m5 m6 range limit = record { address = addressOf m1 m2 m3
 abbrev pub flagOf : ℕ → Bool
 flagOf llcSnap = not (eqb llcSnap 0)
 
--- run 0 is idle, any other value an open run: its next number, last number, filled length and flag
-pub record Numbers : Type 0 where
-  pub run : ℕ
-  pub next : ℕ
-  pub last : ℕ
-  pub filled : ℕ
-  pub llcSnap : ℕ
-
-abbrev pub numbers : ℕ → ℕ → ℕ → ℕ → ℕ → Numbers
-numbers run next last filled llcSnap = record { run = run; next = next; last = last; filled = filled; llcSnap = llcSnap }
-
--- the state that the numbers mean
-unfoldable pub stateOf : Numbers → State
-stateOf n = pick (eqb (n .run) 0) Idle (Open (n .next) (n .filled) (record { last = n .last; «llc_snap» = flagOf (n .llcSnap) }))
-
 -- the number of a flag
 unfoldable pub flagNumber : Bool → ℕ
 flagNumber llcSnap = pick llcSnap 1 0
 
--- the numbers of a state; an idle one has zeros
-unfoldable pub numbersOf : State → Numbers
-numbersOf Idle = numbers 0 0 0 0 0
-numbersOf (Open next filled key) = numbers 1 next (key .last) filled (flagNumber (key .«llc_snap»))
+-- ---- a state is sixteen bytes: 0 is the run, 1 the LLC_SNAP_flag, 2 and 3 the next number, 4 and 5 the last number, 6 to 9 the filled
+-- length, and 10 to 15 the address of the run's number 0
+-- what sixteen bytes mean: run 0 is idle, whatever the others are, and any other value an open run
+unfoldable pub stateOf : List ℕ → State
+stateOf x =
+    pick (eqb (byteAt x 0) 0) Idle
+    (Open (numberAt 2 x 2) (numberAt 4 x 6) (record { address = addressAt x 10; last = numberAt 2 x 4; «llc_snap» = flagOf (byteAt x 1) }))
 
--- the numbers of a state mean that state: a caller who hands them on hands on the state
+-- the bytes of a state; an idle one has zeros
+unfoldable pub stateBytes : State → List ℕ
+stateBytes Idle = replicate 16 0
+stateBytes (Open next filled key) =
+    1
+    ∷ flagNumber (key .«llc_snap»)
+    ∷ (bytesOf 2 next ++ (bytesOf 2 (key .last) ++ (bytesOf 4 filled ++ addressBytes (key .address))))
+
+-- the bytes of a good state mean that state: a caller who hands them on hands on the state
 abbrev pub HandedOn : Type 0
-HandedOn = (σ : State) → stateOf (numbersOf σ) ≡ σ
+HandedOn = (c : Settings) (σ : State) → GoodState c σ → stateOf (stateBytes σ) ≡ σ

@@ -1,10 +1,12 @@
-// Settings and a receiver's state as numbers.
+// Settings as numbers, and a receiver's state as bytes.
 use rules::Address;
 use rules::Key;
 use rules::Settings;
 use rules::State;
+use wire::u16_at;
+use wire::u32_at;
 ghost use mathlib.Core.Path.{_≡_};
-ghost use Rattle.caller_numbers.specs.Numbers.{addressOf, settingsOf, numbers, stateOf, numbersOf};
+ghost use Rattle.caller_numbers.specs.Numbers.{addressOf, settingsOf, stateOf, stateBytes};
 
 // An address in printed order, MAC_address_1 first.
 pub fn address_of(mac1: u8, mac2: u8, mac3: u8, mac4: u8, mac5: u8, mac6: u8) -> Address
@@ -39,51 +41,56 @@ pub fn settings_of(
     }
 }
 
-// The state that the numbers mean.
-pub fn state_of(run: u8, next: usize, last: usize, filled: usize, llc_snap: u8) -> State
-    ensures { λ r. ⌜ r ≡ stateOf (numbers run next last filled «llc_snap») ⌝ }
+// The state that sixteen bytes mean.
+pub fn state_of(state: &[u8; 16]) -> State
+    ensures { λ r. ⌜ r ≡ stateOf (now (state .entry)) ⌝ }
 {
-    if run == 0 {
+    if state[0] == 0 {
         return State::Idle;
     }
     State::Open {
-        next: next,
-        filled: filled,
+        next: u16_at(state, 2),
+        filled: u32_at(state, 6),
         key: Key {
-            last: last,
-            llc_snap: llc_snap != 0,
+            address: address_of(
+                state[10],
+                state[11],
+                state[12],
+                state[13],
+                state[14],
+                state[15],
+            ),
+            last: u16_at(state, 4),
+            llc_snap: state[1] != 0,
         },
     }
 }
 
-// Writes the numbers of a state.
-pub fn put(
-    state: State,
-    run: &mut u8,
-    next: &mut usize,
-    last: &mut usize,
-    filled: &mut usize,
-    llc_snap: &mut u8,
-)
-    ensures { λ _. ⌜ numbers (now (run .exit)) (now (next .exit)) (now (last .exit)) (now (filled .exit)) (now («llc_snap» .exit))
-        ≡ numbersOf state ⌝ }
+// The bytes of a state; an idle one has zeros.
+pub fn state_bytes(state: State) -> [u8; 16]
+    ensures { λ r. ⌜ r ≡ stateBytes state ⌝ }
 {
-    let State::Open {
-        next: e,
-        filled: f,
-        key,
-    } = state
-    else {
-        *run = 0;
-        *next = 0;
-        *last = 0;
-        *filled = 0;
-        *llc_snap = 0;
-        return;
+    let State::Open { next, filled, key } = state else {
+        return [0; 16];
     };
-    *run = 1;
-    *next = e;
-    *last = key.last;
-    *filled = f;
-    *llc_snap = key.llc_snap as u8;
+    let last = key.last;
+    let address = key.address;
+    [
+        1,
+        key.llc_snap as u8,
+        (next / 256 % 256) as u8,
+        (next % 256) as u8,
+        (last / 256 % 256) as u8,
+        (last % 256) as u8,
+        (filled / 16777216 % 256) as u8,
+        (filled / 65536 % 256) as u8,
+        (filled / 256 % 256) as u8,
+        (filled % 256) as u8,
+        address.mac1,
+        address.mac2,
+        address.mac3,
+        address.mac4,
+        address.mac5,
+        address.mac6,
+    ]
 }

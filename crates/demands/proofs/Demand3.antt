@@ -9,22 +9,27 @@ use Rattle.wire.specs.Choice.{pick}
 use Rattle.rules.specs.declared.Settings.{Settings}
 use Rattle.rules.specs.declared.Answer.{Answer}
 use Rattle.rules.specs.After.{NamedByNumber}
+use Rattle.rules.specs.declared.State.the-variants.{Idle}
 use Rattle.rules.specs.Demand3.{HandedRight, OfBytes}
+use Rattle.rules.specs.Meaning.{GoodState}
 use Rattle.rules.specs.Row.{after, Event, fresh, Handed, handedBy, handedOver, Held, next}
 use Rattle.rules.specs.Step.{gapOf, lengthOf, numberOf}
 use Rattle.rules.specs.declared.Answer.the-variants.{Delivered, PassedBy, Refused, Stored}
 use Rattle.rules.proofs.After.{receiver-names}
 use Rattle.rules.proofs.Demand3.{demand-3 as demand-3-holds}
 use Rattle.rules.proofs.Handed.{handedRow}
+use Rattle.rules.proofs.Made.{made-is-good}
 use Rattle.caller_numbers.proofs.Meaning.{handed-on}
+use Rattle.demands.specs.Abroad.{receiveGiven}
 use Rattle.demands.specs.Demand3.{a-gap, a-gap-abroad, a-section, a-section-abroad, Demand3, ended, Given, GivenRow, handedAbroad, more}
 
 held : (c : Settings) (h : Held) (e : Event) (k : Held) (d : Handed) → Given c h e k d → k ≡ next c h e
-unfolding next gapOf
+unfolding next gapOf GoodState
 held c h e k d (a-section κs a z x p q r t) = rw (t .step, t .buffer, p, q, r)
 held c h e k d (a-gap κs a z x q t) = rw t
-held c h e k d (a-section-abroad κs a z x p q r t) = rw (t .state, handed-on _, t .buffer, p, q, r)
-held c h e k d (a-gap-abroad κs a z x q t) = rw (t, handed-on _)
+held c h e k d (a-section-abroad κs a z x p q r t) =
+    rw (t .state, t .buffer, p, q, r, handed-on c _ (made-is-good c (h .state) (receiveGiven κs a .section) (h .buffer)))
+held c h e k d (a-gap-abroad κs a z x q t) = rw (t, handed-on c Idle tt)
 
 -- ---- an answer's number and length tell what is handed over, since no refusal has the number 0
 named-tells : (a : Answer) → NamedByNumber a → (b : List ℕ) → handedAbroad (numberOf a) (lengthOf a) b ≡ handedBy a b

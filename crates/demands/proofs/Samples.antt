@@ -19,4 +19,4 @@ use Rattle.demands.specs.Samples.{answersFrom, samples, Samples}
 
 pub all-right : Samples
 unfolding samples answersFrom flatten numberAt bytesOf pick both either first firstOf crcBit crcBits crcByte crcFrom crc32 tableId sectionSyntaxIndicator privateIndicator sectionLength address payloadScramblingControl addressScramblingControl llcSnapFlag currentNextIndicator sectionNumber lastSectionNumber payload crcField header sealed sectionOf tooShort otherTable wrongLength checksumForm wrongSyntax wrongCrc notCurrent outOfOrder addressScrambled formLines orderLines sharedLines sharedRefusal checkLines check agree sameAddress numberOf lengthOf goodSettings goodRun goodState keyOf sameKey continues onward fillFrom ours payloadScrambled overLimit ownLines ownRefusal room refuseFirst laid finish keep lay setupLines stepOf gapOf sectionCount piece sectionAt sectionsTo sections sendingNumber sendLines sentOf written next flagged readOf whole cutWithin cutOf every any odd fromOffset actionType platformIdHash loopSize descriptorSize loopCut loopsOf filled descriptorsOf pairsOf otherAction wrongHash fits misfit known otherLength platformLines loopLines refusal found chosen searched findingOf rightLength firstPair
-all-right = (refl, (refl, (refl, (refl, (refl, (refl, (refl, (refl, (refl, (refl, (refl, (refl, (refl, (refl, (refl, (refl, (refl, tt)))))))))))))))))
+all-right = (refl, (refl, (refl, (refl, (refl, (refl, (refl, (refl, (refl, (refl, (refl, (refl, (refl, (refl, (refl, (refl, (refl, (refl, (refl, (refl, tt))))))))))))))))))))

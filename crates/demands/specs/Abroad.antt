@@ -7,45 +7,36 @@ use contract.Lifetimes.{Lfts}
 use denote.Ref.{now}
 use Rattle.rules.specs.declared.Address.{Address}
 use Rattle.rules.specs.declared.Settings.{Settings}
-use Rattle.caller_numbers.specs.Numbers.{addressOf, flagOf, Numbers, numbers, settingsOf}
+use Rattle.caller_numbers.specs.Numbers.{addressOf, flagOf, settingsOf}
 use Rattle.demands.specs.Allowed.{Args, Exit}
 use Rattle.demands.specs.Contracts as contracts
 
--- ---- fossknut_receive
+-- ---- fossknut_receive: the state is sixteen bytes
 pub record ReceiveGiven : Type 0 where
   pub settings : Settings
-  pub state : Numbers
+  pub state : List ℕ
   pub section : List ℕ
   pub buffer : List ℕ
 
-abbrev pub receiveGiven : (κs : Lfts 8) → Args contracts.fossknut-receive κs → ReceiveGiven
-receiveGiven κs (m1, (m2, (m3, (m4, (m5, (m6, (range, (limit, (run, (next, (last, (filled, (llcSnap, (s, (buffer, _))))))))))))))) =
-    record {
-      settings = settingsOf m1 m2 m3 m4 m5 m6 range limit;
-      state = numbers (now run) (now next) (now last) (now filled) (now llcSnap);
-      section = now s;
-      buffer = now buffer;
-    }
+abbrev pub receiveGiven : (κs : Lfts 4) → Args contracts.fossknut-receive κs → ReceiveGiven
+receiveGiven κs (m1, (m2, (m3, (m4, (m5, (m6, (range, (limit, (state, (s, (buffer, _))))))))))) =
+    record { settings = settingsOf m1 m2 m3 m4 m5 m6 range limit; state = now state; section = now s; buffer = now buffer }
 
 pub record ReceiveGave : Type 0 where
-  pub state : Numbers
+  pub state : List ℕ
   pub buffer : List ℕ
   pub length : ℕ
 
-abbrev pub receiveGave : (κs : Lfts 8) → Exit contracts.fossknut-receive κs → ReceiveGave
-receiveGave κs (_, (_, (_, (_, (_, (_, (_, (_, (run, (next, (last, (filled, (llcSnap, (_, (buffer, (length, _)))))))))))))))) =
-    record {
-      state = numbers (now run) (now next) (now last) (now filled) (now llcSnap);
-      buffer = now buffer;
-      length = now length;
-    }
+abbrev pub receiveGave : (κs : Lfts 4) → Exit contracts.fossknut-receive κs → ReceiveGave
+receiveGave κs (_, (_, (_, (_, (_, (_, (_, (_, (state, (_, (buffer, (length, _)))))))))))) =
+    record { state = now state; buffer = now buffer; length = now length }
 
 -- ---- fossknut_gap
-abbrev pub gapGiven : (κs : Lfts 5) → Args contracts.fossknut-gap κs → Numbers
-gapGiven κs (run, (next, (last, (filled, (llcSnap, _))))) = numbers (now run) (now next) (now last) (now filled) (now llcSnap)
+abbrev pub gapGiven : (κs : Lfts 1) → Args contracts.fossknut-gap κs → List ℕ
+gapGiven κs (state, _) = now state
 
-abbrev pub gapGave : (κs : Lfts 5) → Exit contracts.fossknut-gap κs → Numbers
-gapGave κs (run, (next, (last, (filled, (llcSnap, _))))) = numbers (now run) (now next) (now last) (now filled) (now llcSnap)
+abbrev pub gapGave : (κs : Lfts 1) → Exit contracts.fossknut-gap κs → List ℕ
+gapGave κs (state, _) = now state
 
 -- ---- fossknut_send and fossknut_send_by_default, which is given no piece size
 pub record SendGiven : Type 0 where

@@ -163,8 +163,8 @@ settings-of = function caller_numbers.settings_of.Kinds.ps caller_numbers.settin
 abbrev pub state-of : Function
 state-of = function caller_numbers.state_of.Kinds.ps caller_numbers.state_of.Kinds.r caller_numbers.state_of.Reads.Learnt
 
-abbrev pub put-state : Function
-put-state = function caller_numbers.put.Kinds.ps caller_numbers.put.Kinds.r caller_numbers.put.Reads.Learnt
+abbrev pub state-bytes : Function
+state-bytes = function caller_numbers.state_bytes.Kinds.ps caller_numbers.state_bytes.Kinds.r caller_numbers.state_bytes.Reads.Learnt
 
 abbrev pub fossknut-crc-32 : Function
 fossknut-crc-32 = function fossknut.fossknut_crc_32.Kinds.ps fossknut.fossknut_crc_32.Kinds.r fossknut.fossknut_crc_32.Reads.Learnt

@@ -5,16 +5,17 @@ use Prim.Native.Nat.{ℕ}
 use mathlib.Core.Path.{_≡_}
 use mathlib.Core.Logic.{_≢_, _↔_}
 use mathlib.Core.List.{List}
+use lib.ListN.{replicate}
 use denote.Ref.{now}
 use Rattle.wire.specs.Meaning.{FirstThat, Row}
 use Rattle.rules.specs.declared.Settings.{Settings}
 use Rattle.rules.specs.declared.State.{State}
 use Rattle.rules.specs.declared.State.the-variants.{Idle}
 use Rattle.rules.specs.After.{NamedByNumber, ReceiverAfter}
-use Rattle.rules.specs.Meaning.{checkRows, receiverRows, senderRows}
+use Rattle.rules.specs.Meaning.{checkRows, GoodState, receiverRows, senderRows}
 use Rattle.rules.specs.Send.{sendingLength, sendingNumber}
 use Rattle.rules.specs.Step.{lengthOf, numberOf}
-use Rattle.caller_numbers.specs.Numbers.{numbers, numbersOf, stateOf}
+use Rattle.caller_numbers.specs.Numbers.{stateBytes, stateOf}
 use Rattle.demands.specs.Abroad.{defaultGave, defaultGiven, gapGave, receiveGave, receiveGiven, sendGave, sendGiven, sizeGiven}
 use Rattle.demands.specs.Allowed.{Allowed}
 use Rattle.demands.specs.Contracts as contracts
@@ -23,10 +24,11 @@ use Rattle.demands.specs.Contracts as contracts
 abbrev pub Numbered : ℕ → List Row → Type 0
 Numbered z rows = (n : ℕ) → (z ≡ n) ↔ FirstThat n rows
 
--- one step of the receiver from the state σ: number and unit length, the state τ and the buffer d after it
+-- one step of the receiver from the state σ: number and unit length, the state τ and the buffer d after it; τ is good for the same settings
 pub record Steps (c : Settings) (σ : State) (s b : List ℕ) (n unit : ℕ) (τ : State) (d : List ℕ) : Type 0 where
   pub number : Numbered n (receiverRows c σ s b)
   pub after : ReceiverAfter σ s b n unit τ d
+  pub good : GoodState c τ
 
 -- one call of the sender: number and total length, and the output after it; what it writes where it accepts is in specs/Demand2.antt
 pub record Sends (c : Settings) (size : ℕ) (u out : List ℕ) (n total : ℕ) (output : List ℕ) : Type 0 where
@@ -51,15 +53,15 @@ pub record Demand1 : Type 0 where
   pub send-by-default : Allowed contracts.send-by-default
       (λ κs (settings, (llcSnap, (unit, (out, _)))) z (_, (_, (_, (after, _)))).
       Sends settings 1008 (now unit) (now out) (sendingNumber z) (sendingLength z) (now after))
-  -- the exported functions: the state is given and handed back as numbers
+  -- the exported functions: the state is given and handed back as bytes; those handed back mean the state after
   pub fossknut-check : Allowed contracts.fossknut-check
       (λ κs (s, _) z e. Numbered z (checkRows (now s)))
   pub fossknut-receive : Allowed contracts.fossknut-receive
       (λ κs a z e. let given = receiveGiven κs a in let gave = receiveGave κs e in
-      (τ : State) × (gave .state ≡ numbersOf τ)
+      (τ : State) × (gave .state ≡ stateBytes τ) × (stateOf (gave .state) ≡ τ)
       × Steps (given .settings) (stateOf (given .state)) (given .section) (given .buffer) z (gave .length) τ (gave .buffer))
   pub fossknut-gap : Allowed contracts.fossknut-gap
-      (λ κs a z e. gapGave κs e ≡ numbers 0 0 0 0 0)
+      (λ κs a z e. gapGave κs e ≡ replicate 16 0)
   pub fossknut-send : Allowed contracts.fossknut-send
       (λ κs a z e. let given = sendGiven κs a in let gave = sendGave κs e in
       Sends (given .settings) (sizeGiven κs a) (given .unit) (given .output) z (gave .length) (gave .output))

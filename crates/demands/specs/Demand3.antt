@@ -43,15 +43,15 @@ pub data Given (c : Settings) (h : Held) : Event → Held → Handed → Type 0 
       (handedBy (z .answer) (bufferAfter κs e))
   a-gap : (κs : Lfts 0) (a : Args contracts.gap κs) (z : Result contracts.gap κs) (e : Exit contracts.gap κs)
       → a .0 ≡ h .state → contracts.gap .Learnt κs a z e → Given c h gap (record { state = z; buffer = h .buffer }) nothing
-  -- by a foreign caller, who has the state as numbers
-  a-section-abroad : (κs : Lfts 8) (a : Args contracts.fossknut-receive κs) (z : Result contracts.fossknut-receive κs)
+  -- by a foreign caller, who has the state as bytes
+  a-section-abroad : (κs : Lfts 4) (a : Args contracts.fossknut-receive κs) (z : Result contracts.fossknut-receive κs)
       (e : Exit contracts.fossknut-receive κs)
       → receiveGiven κs a .settings ≡ c → stateOf (receiveGiven κs a .state) ≡ h .state → receiveGiven κs a .buffer ≡ h .buffer
       → contracts.fossknut-receive .Learnt κs a z e
       → Given c h (section (receiveGiven κs a .section))
       (record { state = stateOf (receiveGave κs e .state); buffer = receiveGave κs e .buffer })
       (handedAbroad z (receiveGave κs e .length) (receiveGave κs e .buffer))
-  a-gap-abroad : (κs : Lfts 5) (a : Args contracts.fossknut-gap κs) (z : Result contracts.fossknut-gap κs) (e : Exit contracts.fossknut-gap κs)
+  a-gap-abroad : (κs : Lfts 1) (a : Args contracts.fossknut-gap κs) (z : Result contracts.fossknut-gap κs) (e : Exit contracts.fossknut-gap κs)
       → stateOf (gapGiven κs a) ≡ h .state → contracts.fossknut-gap .Learnt κs a z e
       → Given c h gap (record { state = stateOf (gapGave κs e); buffer = h .buffer }) nothing
 

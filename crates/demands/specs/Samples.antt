@@ -1,10 +1,11 @@
--- Document 01, 'Samples on the bench': each line marked (P), of the rules themselves, as a row of one table; after them document 02, requests 2
--- and 7. Proved in proofs/Samples.antt.
+-- Document 01, 'Samples on the bench': each line marked (P), of the rules themselves, as a row of one table; after them document 02, requests
+-- 2, 5 and 7. Proved in proofs/Samples.antt.
 use Prim.Native.Nat.{ℕ}
 use mathlib.Core.Path.{_≡_}
 use mathlib.Core.List.{List, [], _∷_, flatten}
 use mathlib.Core.Bool.{false}
 use lib.ListN.{replicate, take}
+use Rattle.rules.specs.declared.Address.{Address}
 use Rattle.rules.specs.declared.Settings.{Settings}
 use Rattle.rules.specs.Check.{check}
 use Rattle.rules.specs.Recording.{listingSettings}
@@ -24,17 +25,28 @@ own = listingSettings
 abbrev pub ours : ℕ → ℕ → ℕ → Event
 ours number last n = section (sectionOf (own .address) false number last (replicate n 0))
 
--- the numbers and unit lengths that a fresh receiver answers, section by section
-unfoldable pub answersFrom : Held → List Event → List ℕ
-answersFrom h [] = []
-answersFrom h (gap ∷ r) = answersFrom (next own h gap) r
-answersFrom h (section s ∷ r) =
-    let o : Outcome = stepOf own (h .state) s (h .buffer) in
-    numberOf (o .step .answer) ∷ lengthOf (o .step .answer) ∷ answersFrom (next own h (section s)) r
+-- a section of a sister, which has another MAC_address_5: a range of 1 does not tell her from us, a range of 2 does
+abbrev pub sister : Address
+sister = record { mac1 = 0x02; mac2 = 0x00; mac3 = 0x5E; mac4 = 0x10; mac5 = 0x21; mac6 = 0x30 }
 
--- with a buffer of n bytes
+abbrev pub hers : ℕ → ℕ → ℕ → Event
+hers number last n = section (sectionOf sister false number last (replicate n 0))
+
+-- the numbers and unit lengths that a receiver answers, section by section
+unfoldable pub answersFrom : Settings → Held → List Event → List ℕ
+answersFrom c h [] = []
+answersFrom c h (gap ∷ r) = answersFrom c (next c h gap) r
+answersFrom c h (section s ∷ r) =
+    let o : Outcome = stepOf c (h .state) s (h .buffer) in
+    numberOf (o .step .answer) ∷ lengthOf (o .step .answer) ∷ answersFrom c (next c h (section s)) r
+
+-- a fresh one with a buffer of n bytes
 abbrev pub answers : ℕ → List Event → List ℕ
-answers n r = answersFrom (fresh (replicate n 0)) r
+answers n r = answersFrom own (fresh (replicate n 0)) r
+
+-- a fresh one with this range, and a buffer of 7 bytes
+abbrev pub answersBy : ℕ → List Event → List ℕ
+answersBy range r = answersFrom (record { address = own .address; range = range; limit = own .limit }) (fresh (replicate 7 0)) r
 
 -- what is read of a packet: the answer, extension, rate, and the data
 abbrev pub packet : List ℕ → List ℕ
@@ -94,6 +106,11 @@ samples =
     ∷ sample (indicators 0x70 ∷ indicators 0x30 ∷ indicators 0xF0 ∷ indicators 0xB0 ∷ []) (24 ∷ 15 ∷ 15 ∷ 16 ∷ [])
     -- 02, request 2: the INT keeps 15 for bits 01 and 00, and bit 6 is not looked at
     ∷ sample (platform 0x70 0x07 ∷ platform 0x30 0x07 ∷ platform 0xF0 0x07 ∷ []) (15 ∷ 15 ∷ 4 ∷ [])
+    -- 02, request 5: range 1, two sisters A and B: A0, B0, A1, B1 are stored, stored, 22, 22
+    ∷ sample (answersBy 1 (ours 0 1 4 ∷ hers 0 1 4 ∷ ours 1 1 3 ∷ hers 1 1 3 ∷ [])) (1 ∷ 0 ∷ 1 ∷ 0 ∷ 22 ∷ 0 ∷ 22 ∷ 0 ∷ [])
+    -- 02, request 5: range 1: A0, B0, B1 is B's unit; range 2, which tells them apart: A0, B0, A1, B1 is A's
+    ∷ sample (answersBy 1 (ours 0 1 4 ∷ hers 0 1 3 ∷ hers 1 1 3 ∷ [])) (1 ∷ 0 ∷ 1 ∷ 0 ∷ 0 ∷ 6 ∷ [])
+    ∷ sample (answersBy 2 (ours 0 1 4 ∷ hers 0 1 4 ∷ ours 1 1 3 ∷ hers 1 1 3 ∷ [])) (1 ∷ 0 ∷ 2 ∷ 0 ∷ 0 ∷ 7 ∷ 2 ∷ 0 ∷ [])
     -- 02, request 7: with no piece size and limit 16, 16,128 bytes are sent and 16,129 get 52
     ∷ sample (byDefault 16128 ∷ byDefault 16129 ∷ []) (0 ∷ 52 ∷ [])
     -- 02, request 7: with no piece size, the first section of 1,009 bytes starts 3E B3 FD: it has 1,024

@@ -6,7 +6,6 @@ use mathlib.Core.List.{List}
 use denote.Ref.{now, ptr, RefT}
 use Rattle.demands.specs.Abroad.{defaultGave, gapGave, offsetGave, packetGave, receiveGave, sendGave}
 use Rattle.demands.specs.Allowed.{AnyTwo, Function}
-use Rattle.caller_numbers.specs.Numbers.{numbers}
 use Rattle.demands.specs.Contracts as contracts
 
 -- results z and y are equal
@@ -89,9 +88,7 @@ pub record Tight : Type 0 where
   pub address-of : OneResult contracts.address-of
   pub settings-of : OneResult contracts.settings-of
   pub state-of : OneResult contracts.state-of
-  pub put-state : AnyTwo contracts.put-state
-      (λ κs z y (_, (run, (next, (last, (filled, (llcSnap, _)))))) (_, (run′, (next′, (last′, (filled′, (flag′, _)))))).
-      numbers (now run) (now next) (now last) (now filled) (now llcSnap) ≡ numbers (now run′) (now next′) (now last′) (now filled′) (now flag′))
+  pub state-bytes : OneResult contracts.state-bytes
   -- fossknut: the answer, and all that is given back
   pub fossknut-crc-32 : OneResult contracts.fossknut-crc-32
   pub fossknut-check : OneResult contracts.fossknut-check

@@ -6,16 +6,16 @@ use Rattle.rules.specs.declared.Sending.{Sending}
 use Rattle.rules.specs.declared.Step.{Step}
 use Rattle.rules.specs.Send.{SendOutcome, sendingNumber, sendingLength, Sends}
 use Rattle.rules.specs.Step.{Outcome, Does, numberOf, lengthOf}
-use Rattle.caller_numbers.specs.Numbers.{Numbers, numbersOf}
+use Rattle.caller_numbers.specs.Numbers.{stateBytes}
 use Rattle.fossknut.specs.Told.{ReceiveTold, SendTold}
 
-pub receive-told : {r l : ℕ} {n : Numbers} {b : List ℕ} (o : Outcome) (t : Step)
-    → Does o t b → r ≡ numberOf (t .answer) → l ≡ lengthOf (t .answer) → n ≡ numbersOf (t .state) → ReceiveTold o r l n b
+pub receive-told : {r l : ℕ} {x b : List ℕ} (o : Outcome) (t : Step)
+    → Does o t b → r ≡ numberOf (t .answer) → l ≡ lengthOf (t .answer) → x ≡ stateBytes (t .state) → ReceiveTold o r l x b
 receive-told o t d answer unit state =
     record {
       answer = answer ∙ ap (λ (t : Step). numberOf (t .answer)) (d .step);
       unit = unit ∙ ap (λ (t : Step). lengthOf (t .answer)) (d .step);
-      state = state ∙ ap (λ (t : Step). numbersOf (t .state)) (d .step);
+      state = state ∙ ap (λ (t : Step). stateBytes (t .state)) (d .step);
       buffer = d .buffer;
     }
 

@@ -1,4 +1,4 @@
--- What a foreign caller is given is the outcome, read off it as numbers.
+-- What a foreign caller is given is the outcome, read off it as numbers and bytes.
 use Prim.Native.Nat.{ℕ, _-_}
 use mathlib.Core.Path.{_≡_}
 use mathlib.Core.List.{List}
@@ -7,14 +7,14 @@ use Rattle.rules.specs.Step.{Outcome, numberOf, lengthOf}
 use Rattle.notification_rules.specs.declared.Finding.{Finding}
 use Rattle.notification_rules.specs.Finding.{findingNumber, findingOffset}
 use Rattle.pes_rules.specs.declared.Reading.{Reading}
-use Rattle.caller_numbers.specs.Numbers.{flagNumber, Numbers, numbersOf}
+use Rattle.caller_numbers.specs.Numbers.{flagNumber, stateBytes}
 
--- of the receiver: the answer's number, the unit length, the numbers of the state, and the buffer. They are a state's numbers whatever
--- numbers were given, also where the state is as given (2): run and flag are 0 or 1, and idle has zeros
-pub record ReceiveTold (o : Outcome) (r l : ℕ) (n : Numbers) (b : List ℕ) : Type 0 where
+-- of the receiver: the answer's number, the unit length, the bytes of the state, and the buffer. They are a state's bytes whatever
+-- bytes were given, also where the state is as given (2): run and flag are 0 or 1, and idle has zeros
+pub record ReceiveTold (o : Outcome) (r l : ℕ) (x b : List ℕ) : Type 0 where
   pub answer : r ≡ numberOf (o .step .answer)
   pub unit : l ≡ lengthOf (o .step .answer)
-  pub state : n ≡ numbersOf (o .step .state)
+  pub state : x ≡ stateBytes (o .step .state)
   pub buffer : b ≡ o .buffer
 
 -- of the sender: the number, the total length, and the output

@@ -1,14 +1,14 @@
-// What the Rust box links: functions on numbers and byte slices only. A slice passes as a pointer and then a length.
+// What the Rust box links: functions on numbers and bytes only. A slice passes as a pointer and then a length, sixteen bytes as a pointer.
 use caller_numbers::address_of;
-use caller_numbers::put;
 use caller_numbers::settings_of;
+use caller_numbers::state_bytes;
 use caller_numbers::state_of;
 ghost use mathlib.Core.Path.{_≡_};
 ghost use Rattle.rules.specs.Check.{check};
 ghost use Rattle.rules.specs.Crc.{crc32};
 ghost use Rattle.rules.specs.Send.{sentOf, defaultPiece};
 ghost use Rattle.rules.specs.Step.{stepOf, gapOf};
-ghost use Rattle.caller_numbers.specs.Numbers.{addressOf, settingsOf, flagOf, numbers, stateOf, numbersOf};
+ghost use Rattle.caller_numbers.specs.Numbers.{addressOf, settingsOf, flagOf, stateOf, stateBytes};
 ghost use Rattle.fossknut.specs.Told.{ReceiveTold, SendTold, FindingTold, PacketTold};
 ghost use Rattle.notification_rules.specs.Finding.{findingOf};
 ghost use Rattle.pes_rules.specs.Packet.{readOf};
@@ -30,9 +30,11 @@ pub extern "C" fn fossknut_check(s: &[u8]) -> u8
 }
 
 // One step of the receiver, its own address in printed order. Answers the paper's number; `length` gets the unit length.
-// The state travels as numbers: `run` 0 is idle, any other value an open run; a flag other than 0 is 1. What is given back are the numbers
-// of the state after (`numbersOf`), with answer 2 too: there the state is as given, and numbers that no state has are rewritten all the same.
-// Run 7 becomes 1, a flag of 2 becomes 1, and beside run 0 the others become 0.
+// The state travels as sixteen bytes, numbers high byte first: 0 is the run, 1 the LLC_SNAP_flag, 2 and 3 the next number, 4 and 5 the last
+// number, 6 to 9 the filled length, and 10 to 15 the address of the run's number 0, in printed order. Any sixteen bytes are a state: run 0 is
+// idle, any other value an open run, and any flag but 0 is 1. What is given back are the bytes of the state after (`stateBytes`), idle
+// zeros; with answer 2 too: there the state is as given, and bytes that no state has are rewritten all the same. Run 7 becomes 1, a flag of 2
+// becomes 1, and beside run 0 the others become 0.
 #[no_mangle]
 pub extern "C" fn fossknut_receive(
     mac1: u8,
@@ -43,11 +45,7 @@ pub extern "C" fn fossknut_receive(
     mac6: u8,
     range: usize,
     limit: usize,
-    run: &mut u8,
-    next: &mut usize,
-    last: &mut usize,
-    filled: &mut usize,
-    llc_snap: &mut u8,
+    state: &mut [u8; 16],
     s: &[u8],
     buffer: &mut [u8],
     length: &mut usize,
@@ -55,39 +53,29 @@ pub extern "C" fn fossknut_receive(
     ensures { λ r. ⌜ ReceiveTold
         (stepOf
         (settingsOf mac1 mac2 mac3 mac4 mac5 mac6 range limit)
-        (stateOf (numbers (now (run .entry)) (now (next .entry)) (now (last .entry)) (now (filled .entry)) (now («llc_snap» .entry))))
+        (stateOf (now (state .entry)))
         (now (s .entry))
         (now (buffer .entry)))
         r
         (now (length .exit))
-        (numbers (now (run .exit)) (now (next .exit)) (now (last .exit)) (now (filled .exit)) (now («llc_snap» .exit)))
+        (now (state .exit))
         (now (buffer .exit)) ⌝ }
 {
     let settings = settings_of(mac1, mac2, mac3, mac4, mac5, mac6, range, limit);
-    let state = state_of(*run, *next, *last, *filled, *llc_snap);
-    let step = receiver::receive(settings, state, s, buffer);
+    let step = receiver::receive(settings, state_of(state), s, buffer);
     let answer = step.answer;
     let after = step.state;
-    put(after, run, next, last, filled, llc_snap);
+    *state = state_bytes(after);
     *length = answer_numbers::length_of(answer);
     answer_numbers::number_of(answer)
 }
 
-// A gap notice: the numbers become those of the idle state.
+// A gap notice: the bytes become those of the idle state.
 #[no_mangle]
-pub extern "C" fn fossknut_gap(
-    run: &mut u8,
-    next: &mut usize,
-    last: &mut usize,
-    filled: &mut usize,
-    llc_snap: &mut u8,
-)
-    ensures { λ _. ⌜ numbers (now (run .exit)) (now (next .exit)) (now (last .exit)) (now (filled .exit)) (now («llc_snap» .exit))
-        ≡ numbersOf (gapOf
-        (stateOf (numbers (now (run .entry)) (now (next .entry)) (now (last .entry)) (now (filled .entry)) (now («llc_snap» .entry))))) ⌝ }
+pub extern "C" fn fossknut_gap(state: &mut [u8; 16])
+    ensures { λ _. ⌜ now (state .exit) ≡ stateBytes (gapOf (stateOf (now (state .entry)))) ⌝ }
 {
-    let state = receiver::gap(state_of(*run, *next, *last, *filled, *llc_snap));
-    put(state, run, next, last, filled, llc_snap);
+    *state = state_bytes(receiver::gap(state_of(state)));
 }
 
 // The sender. The address is six numbers in printed order, any flag but 0 is 1, and the total length goes to `length`.

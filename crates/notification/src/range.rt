@@ -3,7 +3,8 @@ use rules::Address;
 use wire::byte_at;
 ghost use mathlib.Core.Path.{_≡_};
 ghost use Prim.Native.Nat.{_≤_};
-ghost use Rattle.notification_rules.specs.Range.{addressAt, atMost, inRange};
+ghost use Rattle.rules.specs.Address.{addressAt};
+ghost use Rattle.notification_rules.specs.Range.{atMost, inRange};
 
 // The address that stands at i: MAC_address_1 first.
 fn address_at(s: &[u8], i: usize) -> Address

@@ -13,8 +13,8 @@ use Rattle.wire.specs.Choice.{pick, both}
 use Rattle.wire.proofs.Bytes.{numberAt-lt}
 use Rattle.wire.proofs.Choice.{both-true, not-pick, yes-pick}
 use Rattle.rules.specs.declared.Address.{Address}
-use Rattle.rules.specs.Address.{addressBytes}
-use Rattle.notification_rules.specs.Range.{addressAt, atMost, inRange, RangeMeans, unequal}
+use Rattle.rules.specs.Address.{addressAt, addressBytes}
+use Rattle.notification_rules.specs.Range.{atMost, inRange, RangeMeans, unequal}
 
 -- ---- the code's steps: bytes that differ decide, those that are equal leave it to the rest
 pub differs : {x y : ℕ} (rest : Bool) → x ≢ y → ltb x y ≡ pick (unequal x y) (ltb x y) rest

@@ -1,27 +1,15 @@
 -- Whether a device's address is in a range: EN 301 192 V1.3.1, clause 7.6.5.7, table 25, the target_MAC_address_range_descriptor; document 01,
 -- 'The INT section'; document 02, request 6. Here MAC_address_1 stands first.
-use Prim.Native.Nat.{ℕ, _+_, _≤_}
+use Prim.Native.Nat.{ℕ, _≤_}
 use mathlib.Core.Path.{_≡_}
 use mathlib.Core.Bool.{Bool, true, not}
 use mathlib.Core.List.{List}
 use mathlib.Core.Logic.{_↔_}
 use lib.Dec.{eqb, ltb}
-use Rattle.wire.specs.Bytes.{byteAt, Bytes, numberAt}
+use Rattle.wire.specs.Bytes.{Bytes, numberAt}
 use Rattle.wire.specs.Choice.{pick, both}
 use Rattle.rules.specs.declared.Address.{Address}
-use Rattle.rules.specs.Address.{addressBytes}
-
--- the address that stands at i
-unfoldable pub addressAt : List ℕ → ℕ → Address
-addressAt s i =
-    record {
-      mac1 = byteAt s i;
-      mac2 = byteAt s (i + 1);
-      mac3 = byteAt s (i + 2);
-      mac4 = byteAt s (i + 3);
-      mac5 = byteAt s (i + 4);
-      mac6 = byteAt s (i + 5);
-    }
+use Rattle.rules.specs.Address.{addressAt, addressBytes}
 
 abbrev pub unequal : ℕ → ℕ → Bool
 unequal x y = not (eqb x y)

@@ -1,4 +1,5 @@
-// One step of the receiver, and the gap notice: document 01, 'The receiver'. The letters are the paper's: f is the filled length.
+// One step of the receiver, and the gap notice: document 01, 'The receiver'; document 02, request 5. The letters are the paper's: f is the
+// filled length.
 use rules::Answer;
 use rules::Key;
 use rules::Settings;
@@ -33,29 +34,37 @@ fn good_run(next: usize, last: usize, filled: usize) -> bool
     both(filled <= 65535, filled <= 4080 * next)
 }
 
-fn good_state(state: State) -> bool
-    ensures { λ r. ⌜ r ≡ goodState state ⌝ }
+// An open run's kept address is the own where compared.
+fn good_state(settings: Settings, state: State) -> bool
+    ensures { λ r. ⌜ r ≡ goodState settings state ⌝ }
 {
     let State::Open { next, filled, key } = state else {
         return true;
     };
-    let last = key.last;
-    good_run(next, last, filled)
+    both(
+        good_run(next, key.last, filled),
+        same_address(settings.range, settings.address, key.address),
+    )
 }
 
 fn key_of(s: &[u8]) -> Key
     ensures { λ r. ⌜ r ≡ keyOf (now (s .entry)) ⌝ }
 {
     Key {
+        address: address(s),
         last: last_section_number(s) as usize,
         llc_snap: llc_snap_flag(s),
     }
 }
 
+// All six bytes of the address are compared, whatever the range.
 fn same_key(a: Key, b: Key) -> bool
     ensures { λ r. ⌜ r ≡ sameKey a b ⌝ }
 {
-    both(a.last == b.last, a.llc_snap == b.llc_snap)
+    both(
+        same_address(6, a.address, b.address),
+        both(a.last == b.last, a.llc_snap == b.llc_snap),
+    )
 }
 
 fn continues(next: usize, key: Key, s: &[u8]) -> bool
@@ -183,7 +192,7 @@ fn setup_refusal(settings: Settings, state: State) -> u8
     first(
         !settings::good_settings(settings),
         10,
-        first(!good_state(state), 11, 0),
+        first(!good_state(settings, state), 11, 0),
     )
 }
 

@@ -21,7 +21,7 @@ use Rattle.rules.specs.declared.State.the-variants.{Idle, Open}
 use Rattle.rules.specs.After.{NamedByNumber, ReceiverAfter, ReceiverGives, ReceiverNames, runAfter, SenderAfter, SenderGives, stored, storedAt}
 use Rattle.rules.specs.Check.{checkLines, sharedLines, formLines, orderLines}
 use Rattle.rules.specs.Meaning.{filledBefore}
-use Rattle.rules.specs.Section.{lastSectionNumber, llcSnapFlag, payload, sectionNumber}
+use Rattle.rules.specs.Section.{address, lastSectionNumber, llcSnapFlag, payload, sectionNumber}
 use Rattle.rules.specs.Send.{sendingLength, sendingNumber, sendLines, SendOutcome, sections, sentOf, written}
 use Rattle.rules.specs.Step.{ownLines, continues, finish, From, keep, keyOf, laid, lay, lengthOf, Nowhere, numberOf, onward, ours, Outcome, outcome, fillFrom, refuse, refuseFirst, room, setupLines, stepOf}
 use Rattle.rules.proofs.Meaning.{filled-open, filled-zero}
@@ -128,7 +128,7 @@ unfolding laid
 laid-is f s b = rw (stored-is s, take-length (stored s), append-assoc)
 
 kept-after : (σ : State) (s b : List ℕ) (f : ℕ) → filledBefore σ (byteAt s 6) ≡ f → After σ s b (keep f s b)
-unfolding keep finish keyOf sectionNumber lastSectionNumber llcSnapFlag pick numberOf lengthOf
+unfolding keep finish keyOf address sectionNumber lastSectionNumber llcSnapFlag pick numberOf lengthOf
 kept-after σ s b f e = rw (laid-is f s b, stored-is s, ← e) (go (eqb (byteAt s 6) (byteAt s 7)))
   where
     go : (t : Bool) → let g : ℕ = filledBefore σ (byteAt s 6) in

@@ -2,7 +2,7 @@
 use Prim.Native.Nat.{ℕ, zero, suc, _-_, _≤_, _<_}
 use native.Mathlib.Decide.{decLe}
 use native.Mathlib.Omega.{arith}
-use mathlib.Core.Path.{_≡_, refl}
+use mathlib.Core.Path.{_≡_, refl, ap}
 use mathlib.Core.Logic.{_↔_}
 use mathlib.Core.Bool.{true}
 use borrow.Author.Tests.{eq-eqb, eqb-true, le-ltb, lt-ltb}
@@ -61,3 +61,22 @@ compares-last n a b = (
         agree-when 6 n _ _ (λ l. h 0 (omega arith)),
       ),
 )
+
+-- a range of 6 compares all of an address
+pub compares-all : (a b : Address) → (sameAddress 6 a b ≡ true) ↔ (a ≡ b)
+compares-all a b = (
+  λ p.
+      let same : LastEqual 6 (addressBytes a) (addressBytes b) = compares-last 6 a b .0 p in
+      let mac1 : a .mac1 ≡ b .mac1 = same 0 (omega arith) in
+      let mac2 : a .mac2 ≡ b .mac2 = same 1 (omega arith) in
+      let mac3 : a .mac3 ≡ b .mac3 = same 2 (omega arith) in
+      let mac4 : a .mac4 ≡ b .mac4 = same 3 (omega arith) in
+      let mac5 : a .mac5 ≡ b .mac5 = same 4 (omega arith) in
+      let mac6 : a .mac6 ≡ b .mac6 = same 5 (omega arith) in
+      λ i. record { mac1 = mac1 i; mac2 = mac2 i; mac3 = mac3 i; mac4 = mac4 i; mac5 = mac5 i; mac6 = mac6 i },
+  λ p. compares-last 6 a b .1 (λ i l. ap (λ (x : Address). byteAt (addressBytes x) i) p),
+)
+
+-- an address is the same as itself in any range
+pub same-self : (n : ℕ) (a : Address) → sameAddress n a a ≡ true
+same-self n a = compares-last n a a .1 (λ i l. refl)

@@ -3,25 +3,23 @@ use Prim.Native.Nat.{ℕ, zero, suc, _+_, _-_, _≤_, _<_}
 use native.Mathlib.Omega.{arith}
 use native.Mathlib.Numerals.{add-one}
 use mathlib.Core.Path.{_≡_, refl, ap, ap₂, sym, _∙_}
-use mathlib.Core.Bool.{Bool, true, false}
+use mathlib.Core.Bool.{Bool, false}
 use mathlib.Core.List.{List, [], _∷_, _++_, flatten, map}
 use lib.ListN.{length, take, length-take}
-use lib.Dec.{ltb}
-use borrow.Author.Tests.{eq-eqb}
 use Rattle.wire.specs.Bytes.{numberAt}
-use Rattle.wire.specs.Choice.{both, either}
+use Rattle.wire.specs.Choice.{both}
 use Rattle.rules.specs.declared.Settings.{Settings}
 use Rattle.rules.specs.declared.Key.{Key}
-use Rattle.rules.specs.declared.Address.{Address}
 use Rattle.rules.specs.declared.Answer.the-variants.{Delivered, Stored}
 use Rattle.rules.specs.declared.Sending.the-variants.{Sent}
-use Rattle.rules.specs.Address.{agree, sameAddress}
 use Rattle.rules.specs.Recording.{offers}
 use Rattle.rules.specs.Demand2.{answerAt, Arrives, RoundTrip}
 use Rattle.rules.specs.Demand3 as InWords
 use Rattle.rules.specs.Sound.{table3, Values}
 use Rattle.rules.specs.Row.{after, Event, fresh, Held, next, section}
+use Rattle.rules.proofs.Compared.{same-self}
 use Rattle.rules.proofs.Good.{good-is}
+use Rattle.rules.proofs.Made.{made-good}
 use Rattle.rules.proofs.Written.{sent, sent-is, sent-limits}
 use Rattle.rules.proofs.Tested.{elsewhere, joined, InRun, Receivable}
 use Rattle.rules.specs.Section.{header, sealed, sectionLength, sectionOf}
@@ -36,28 +34,6 @@ use Rattle.rules.proofs.Send.{Accepted, count-some, SentAll, sent-all, 
 use Rattle.rules.proofs.Send.{section-size, section-written, sections-at, sections-joined, sections-length, sections-take}
 
 -- ---- each section is receivable
-either-right : (t : Bool) → either t true ≡ true
-unfolding either
-either-right true = refl
-either-right false = refl
-
-agree-self : (k range x : ℕ) → agree k range x x ≡ true
-unfolding agree
-agree-self k range x = rw (eq-eqb x x refl) (either-right (ltb range k))
-
--- an address is the same as itself in any range
-same-self : (range : ℕ) (a : Address) → sameAddress range a a ≡ true
-unfolding sameAddress both
-same-self range a =
-    rw (
-      agree-self 1 range (a .mac6),
-      agree-self 2 range (a .mac5),
-      agree-self 3 range (a .mac4),
-      agree-self 4 range (a .mac3),
-      agree-self 5 range (a .mac2),
-      agree-self 6 range (a .mac1),
-    )
-
 after-more : (c : Settings) (h : Held) (r : List Event) (e : Event) → after c h (r ++ (e ∷ [])) ≡ next c (after c h r) e
 unfolding after
 after-more c h [] e = refl
@@ -80,7 +56,7 @@ module _ (c : Settings) (llcSnap : Bool) (n : ℕ) (u out : List ℕ) (a : Accep
 
   -- what the sections agree on
   abbrev key : Key
-  key = record { last = count - 1; «llc_snap» = llcSnap }
+  key = record { address = c .address; last = count - 1; «llc_snap» = llcSnap }
 
   receivable : (i : ℕ) → i < count → Receivable c (at i)
   unfolding sectionAt ours
@@ -113,7 +89,7 @@ module _ (c : Settings) (llcSnap : Bool) (n : ℕ) (u out : List ℕ) (a : Accep
   unfolding sectionAt keyOf
   agreed i h =
       let w = section-written c llcSnap n u (a .some) (a .most) i h in
-      record { receivable = receivable i h; numbered = w .numbered; agrees = rw (w .ending, w .flagged) }
+      record { receivable = receivable i h; numbered = w .numbered; agrees = rw (w .addressed, w .ending, w .flagged) }
 
   framed : (i : ℕ) → i < count → Framed (at i)
   unfolding sectionAt sectionOf sealed header sectionLength numberAt
@@ -159,7 +135,7 @@ module _ (c : Settings) (llcSnap : Bool) (n : ℕ) (u out : List ℕ) (a : Accep
     holds-to (suc k) h =
         let i : Holds c b (row k) (held k) = holds-to k (omega arith) in
         rw (map-more section (to k) (at k), after-more c (fresh b) (row k) (section (at k)))
-        (due-holds c b (i .size) (due-at k (omega arith) i))
+        (due-holds c b (i .size) (made-good c (held k .state) (at k) (held k .buffer)) (due-at k (omega arith) i))
 
     -- the outcome at section k
     pub record Outcomes (k : ℕ) (o : Outcome) : Type 0 where

@@ -18,8 +18,8 @@ use Rattle.rules.specs.Section.{address, lastSectionNumber, llcSnapFlag}
 use Rattle.rules.specs.Sound.{Limits, table3, Values}
 use Rattle.rules.specs.Step.{goodSettings, keyOf, ours, refuseFirst, room, setupLines, stepOf}
 use Rattle.rules.specs.Row.{after, datagram, Event, fresh, gap, handedBy, handedOver, Held, nothing, section}
-use Rattle.rules.specs.Demand3.{Demand3Holds, Elsewhere, Ends, HandedRight, joined, OfBytes, Once, OnlyOne, Own, InRun, Ready, Receivable, Struck, WholeRun}
-use Rattle.rules.specs.Meaning.{Good}
+use Rattle.rules.specs.Demand3.{Demand3Holds, Elsewhere, Ends, HandedRight, joined, OfBytes, Once, OnlyOne, InRun, Ready, Receivable, Struck, WholeRun}
+use Rattle.rules.specs.Meaning.{Good, Own}
 use Rattle.rules.proofs.Compared.{compares-last}
 use Rattle.rules.proofs.Due.{no-datagram}
 use Rattle.rules.proofs.Exactly.{read-back}
@@ -33,11 +33,11 @@ use Rattle.rules.proofs.Tested.{elsewhere, strike}
 use Rattle.rules.proofs.Track.{room-bounds}
 
 -- ---- the tests, in words
-own-read : (c : Settings) (s : List ℕ) → (ours c s ≡ true) ↔ Own c (read s)
+own-read : (c : Settings) (s : List ℕ) → (ours c s ≡ true) ↔ Own c (read s .address)
 unfolding ours read
 own-read c s = compares-last (c .range) (c .address) (address s)
 
-own-written : (c : Settings) (v : Values) → (ours c (table3 v) ≡ true) ↔ Own c v
+own-written : (c : Settings) (v : Values) → (ours c (table3 v) ≡ true) ↔ Own c (v .address)
 unfolding ours
 own-written c v = rw (address-back v) (compares-last (c .range) (c .address) (v .address))
 
@@ -122,7 +122,8 @@ struck-some c (x ∷ q) t e n (inl h) = struck-some c q t e n (h .1)
 struck-some c (x ∷ q) t e n (inr h) = omega (arith, ap length (h .1 .1))
 
 -- ---- one section of a run
-member-read : (c : Settings) (κ : Key) (i : ℕ) (s : List ℕ) → Bytes s → tested.InRun c κ i s → InRun c (κ .last) (κ .«llc_snap») i (read s)
+member-read : (c : Settings) (κ : Key) (i : ℕ) (s : List ℕ) → Bytes s → tested.InRun c κ i s
+    → InRun c (κ .address) (κ .last) (κ .«llc_snap») i (read s)
 unfolding read keyOf
 member-read c κ i s b p =
     record {
@@ -134,15 +135,17 @@ member-read c κ i s b p =
             within = p .receivable .within;
           };
       numbered = p .numbered;
+      addressed = ap (λ (k : Key). k .address) (p .agrees);
       ending = ap (λ (k : Key). k .last) (p .agrees);
       flagged = ap (λ (k : Key). k .«llc_snap») (p .agrees);
     }
 
-member-written : (c : Settings) (κ : Key) (i : ℕ) (v : Values) → InRun c (κ .last) (κ .«llc_snap») i v
+member-written : (c : Settings) (κ : Key) (i : ℕ) (v : Values) → InRun c (κ .address) (κ .last) (κ .«llc_snap») i v
     → tested.InRun c κ i (table3 v)
 unfolding keyOf
 member-written c κ i v p =
     let k : Receivable c v = p .receivable in
+    let full : address (table3 v) ≡ κ .address = address-back v ∙ p .addressed in
     let last : lastSectionNumber (table3 v) ≡ κ .last = last-back v ∙ p .ending in
     let llcSnap : llcSnapFlag (table3 v) ≡ κ .«llc_snap» = flagged-back v (k .limits) ∙ p .flagged in
     record {
@@ -154,7 +157,7 @@ member-written c κ i v p =
             within = omega (arith, last-back v, k .within);
           };
       numbered = number-back v ∙ p .numbered;
-      agrees = λ i. record { last = last i; «llc_snap» = llcSnap i };
+      agrees = λ i. record { address = full i; last = last i; «llc_snap» = llcSnap i };
     }
 
 -- ---- lists of them
@@ -227,6 +230,7 @@ module _ (c : Settings) (b : List ℕ) where
   run-read xs good bytes u =
       record {
         good = good;
+        address = u .key .address;
         last = u .key .last;
         llcSnap = u .key .«llc_snap»;
         each = each;
@@ -235,7 +239,8 @@ module _ (c : Settings) (b : List ℕ) where
         room = rw (joined-read xs) (omega (arith, u .run .fits, room-bounds b .1));
       }
     where
-      each : (front back : List Values) (v : Values) → map read xs ≡ front ++ (v ∷ back) → InRun c (u .key .last) (u .key .«llc_snap») (length front) v
+      each : (front back : List Values) (v : Values) → map read xs ≡ front ++ (v ∷ back)
+          → InRun c (u .key .address) (u .key .last) (u .key .«llc_snap») (length front) v
       each front back v p =
           let i : ℕ = length front in
           let h : i < length xs = omega (arith, length-map xs read, ap length p, length-append front (v ∷ back)) in
@@ -243,7 +248,8 @@ module _ (c : Settings) (b : List ℕ) where
           sym (List·getD-map read xs i []) ∙ ap (λ (l : List Values). getD l i (read [])) p ∙ getD-append-seam front v back (read []) in
           rw is at (member-read c (u .key) i (getD xs i []) (bytes i h) (u .run .each i h))
 
-  member-at : (vs : List Values) (u : WholeRun c b vs) (i : ℕ) → i < length vs → InRun c (u .last) (u .llcSnap) i (getD vs i (read []))
+  member-at : (vs : List Values) (u : WholeRun c b vs) (i : ℕ) → i < length vs
+      → InRun c (u .address) (u .last) (u .llcSnap) i (getD vs i (read []))
   member-at vs u i h =
       let v : Values = getD vs i (read []) in
       rw (length-take-le i vs (omega arith)) at (u .each (take i vs) (drop (suc i) vs) v (split-at vs i (read []) h))
@@ -251,7 +257,7 @@ module _ (c : Settings) (b : List ℕ) where
   run-written : (vs : List Values) → WholeRun c b vs → tested.WholeRun c b (map table3 vs)
   unfolding room
   run-written vs u =
-      let first : InRun c (u .last) (u .llcSnap) 0 (getD vs 0 (read [])) = member-at vs u 0 (omega (arith, u .whole)) in
+      let first : InRun c (u .address) (u .last) (u .llcSnap) 0 (getD vs 0 (read [])) = member-at vs u 0 (omega (arith, u .whole)) in
       record {
         key = key;
         run = record { each = each; fits = rw (joined-written vs) (omega (arith, u .unit, u .room)) };
@@ -260,7 +266,7 @@ module _ (c : Settings) (b : List ℕ) where
       }
     where
       key : Key
-      key = record { last = u .last; «llc_snap» = u .llcSnap }
+      key = record { address = u .address; last = u .last; «llc_snap» = u .llcSnap }
 
       each : (i : ℕ) → i < length (map table3 vs) → tested.InRun c key i (getD (map table3 vs) i [])
       each i l =

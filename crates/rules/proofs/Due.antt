@@ -24,20 +24,20 @@ use Rattle.rules.proofs.Tested.{Receivable, WholeRun, Ready}
 use Rattle.rules.proofs.Sound.{none-own, own-none}
 use Rattle.rules.proofs.Runs.{EndsIn, ends-size, Next, next, Same, only, whole-ends}
 use Rattle.rules.proofs.Track.{key-last, in-order, room-bounds, room-same, laid-length, nowhere}
-use Rattle.rules.proofs.Track.{Gathered, Track, within, good-state, follows, filled-from, grown}
+use Rattle.rules.proofs.Track.{Gathered, Track, within, follows, filled-from, grown}
 use Rattle.rules.proofs.Finish.{handed, held, carried, ready, finish-held, finish-hands}
 
 pub no-datagram : {n : ℕ} {d : List ℕ} → nothing ≡ datagram n d → ⊥
 no-datagram p = let z : _≡_ {A = ℕ} 0 1 = cc in omega arith
 
-pick-case : (P : Outcome → Type 0) (t : Bool) (o u : Outcome) → (t ≡ true → P o) → (t ≡ false → P u) → P (pick t o u)
+pub pick-case : (P : Outcome → Type 0) (t : Bool) (o u : Outcome) → (t ≡ true → P o) → (t ≡ false → P u) → P (pick t o u)
 unfolding pick
 pick-case P true o u f g = f refl
 pick-case P false o u f g = g refl
 
 -- ---- the step
 -- neither 10 nor 11 applies
-settled : (c : Settings) (σ : State) → goodSettings c ≡ true → goodState σ ≡ true → firstOf (setupLines c σ) ≡ 0
+settled : (c : Settings) (σ : State) → goodSettings c ≡ true → goodState c σ ≡ true → firstOf (setupLines c σ) ≡ 0
 unfolding setupLines firstOf first
 settled c σ p q = rw (p, q)
 
@@ -46,7 +46,7 @@ unfolding elsewhere both
 struck-is c s p q = rw (p, q)
 
 -- a struck section is passed by
-pub passes : (c : Settings) (σ : State) (s b : List ℕ) → goodSettings c ≡ true → goodState σ ≡ true
+pub passes : (c : Settings) (σ : State) (s b : List ℕ) → goodSettings c ≡ true → goodState c σ ≡ true
     → elsewhere c (section s) ≡ true → stepOf c σ s b ≡ outcome PassedBy σ b
 unfolding check elsewhere stepOf refuseFirst pick
 passes c σ s b good fine struck =
@@ -57,11 +57,13 @@ module _ (c : Settings) (b : List ℕ) where
   -- what is held after the struck row
   pub record Holds (row : List Event) (h : Held) : Type 0 where
     pub size : length (h .buffer) ≡ length b
+    pub good : goodState c (h .state) ≡ true
     pub track : Track c b row (h .state) (h .buffer)
 
   -- of a fresh start: an empty row ends in no run
   pub started : Holds [] (fresh b)
-  started = record { size = refl; track = λ κ xs e some partial. omega (arith, ends-size (e .there)) }
+  unfolding goodState
+  started = record { size = refl; good = refl; track = λ κ xs e some partial. omega (arith, ends-size (e .there)) }
 
   -- ---- the outcome that is due at the section s after the row past, by what the row then ends in
   pub data Due (past : List Event) (now s : List ℕ) : Outcome → Type 0 where
@@ -77,19 +79,20 @@ module _ (c : Settings) (b : List ℕ) where
         → Gathered c b (past ++ (section s ∷ [])) after (sectionNumber s + 1) f (keyOf s)
         → sectionNumber s < keyOf s .last → Due past now s (outcome Stored (Open (sectionNumber s + 1) f (keyOf s)) after)
 
-  pub due-holds : {past : List Event} {now s : List ℕ} {o : Outcome} → length now ≡ length b → Due past now s o
-      → Holds (past ++ (section s ∷ [])) (held o)
-  due-holds size (refused never-ends) = record { size = size; track = λ κ xs e some partial. never-ends κ xs e some }
-  due-holds size (finished {f = f} {after = after} size′ g whole) =
+  pub due-holds : {past : List Event} {now s : List ℕ} {o : Outcome} → length now ≡ length b → goodState c (o .step .state) ≡ true
+      → Due past now s o → Holds (past ++ (section s ∷ [])) (held o)
+  due-holds size good (refused never-ends) = record { size = size; good = good; track = λ κ xs e some partial. never-ends κ xs e some }
+  due-holds size good (finished {f = f} {after = after} size′ g whole) =
       rw (finish-held f after)
       (record {
         size = size′;
+        good = ap (goodState c) (ap (λ (h : Held). h .state) (sym (finish-held f after))) ∙ good;
         track = λ κ xs e some partial.
             let same = only c b e (g .run) some (omega (arith, g .count)) in
             omega (arith, ap length (same .sections), ap (λ (μ : Key). μ .last) (same .key), g .count);
       })
-  due-holds size (stored size′ g part) =
-      record { size = size′; track = record { gathered = g; some = omega arith; partial = omega arith } }
+  due-holds size good (stored size′ g part) =
+      record { size = size′; good = good; track = record { gathered = g; some = omega arith; partial = omega arith } }
 
   -- the run that is ready is the run that is gathered
   ready-run : {row : List Event} {now : List ℕ} {m n f : ℕ} {d : List ℕ} {κ : Key} (w : Ready c b row n d)
@@ -163,7 +166,6 @@ module _ (c : Settings) (b : List ℕ) where
     pub due : goodSettings c ≡ true → elsewhere c (section s) ≡ false → Here (stepOf c (h .state) s (h .buffer))
     unfolding check ownRefusal stepOf refuseFirst
     due good kept =
-        let fine : goodState (h .state) ≡ true = good-state c b past (h .state) (h .buffer) good (i .track) in
         pick-case Here _ _ _ (λ t.
         pick-case Here _ _ _ (λ sound.
         pick-case Here _ _ _ (λ address.
@@ -173,4 +175,4 @@ module _ (c : Settings) (b : List ℕ) where
         (λ refused. refusing (λ κ l. let r = l .in-run .receivable in eqb-false _ _ refused (none-own c s (r .clear) (r .within)))))
         (λ foreign. absurd (never (sym kept ∙ struck-is c s (eqb-true _ _ sound) foreign))))
         (λ unsound. refusing (λ κ l. eqb-false _ _ unsound (l .in-run .receivable .sound))))
-        (λ bad. absurd (eqb-false _ _ bad (settled c (h .state) good fine)))
+        (λ bad. absurd (eqb-false _ _ bad (settled c (h .state) good (i .good))))

@@ -12,6 +12,7 @@ pub mod Good
 pub mod Handed
 pub mod Keys
 pub mod Lists
+pub mod Made
 pub mod Meaning
 pub mod Offer
 pub mod Pieces

@@ -13,18 +13,20 @@ use Rattle.wire.specs.Choice.{pick, both, Line, first, firstOf, without}
 use Rattle.wire.specs.Meaning.{Row, _means_}
 use Rattle.wire.proofs.Choice.{both-true, never, not-first}
 use Rattle.wire.proofs.Meaning.{Gives, gives-last, gives-row, or-else, or-zero, orElse, Tells, tells-both, tells-either, tells-eq, tells-le, tells-lt, tells-not, tells-outside}
+use Rattle.rules.specs.declared.Address.{Address}
 use Rattle.rules.specs.declared.Answer.the-variants.{PassedBy}
 use Rattle.rules.specs.declared.Form.{Form}
 use Rattle.rules.specs.declared.Key.{Key}
 use Rattle.rules.specs.declared.Settings.{Settings}
 use Rattle.rules.specs.declared.State.{State}
 use Rattle.rules.specs.declared.State.the-variants.{Idle, Open}
+use Rattle.rules.specs.Address.{sameAddress}
 use Rattle.rules.specs.Check.{addressScrambled, check, checkLines, checksumForm, datagramForm, sharedRefusal, sharedLines, formLines, notCurrent, orderLines, otherTable, outOfOrder, tooShort, wrongCrc, wrongLength, wrongSyntax}
 use Rattle.rules.specs.Crc.{crc32}
-use Rattle.rules.specs.Meaning.{CheckMeans, CutInto, filledBefore, GoesOn, GoodState, DefaultMeans, InChecksumForm, ReceiverMeans, SameAddress, sectionRows, SenderMeans, rows12to14, rows16to18}
+use Rattle.rules.specs.Meaning.{CheckMeans, CutInto, filledBefore, GoesOn, GoodState, DefaultMeans, InChecksumForm, Own, printed, ReceiverMeans, sectionRows, SenderMeans, rows12to14, rows16to18}
 use Rattle.rules.specs.Section.{address, addressScramblingControl, crcField, currentNextIndicator, lastSectionNumber, llcSnapFlag, payload, payloadScramblingControl, privateIndicator, sectionLength, sectionNumber, sectionSyntaxIndicator, tableId}
 use Rattle.rules.specs.Step.{ownLines, continues, From, goodRun, goodState, keep, keyOf, lay, Nowhere, numberOf, onward, ours, Outcome, outcome, overLimit, payloadScrambled, fillFrom, refuse, refuseFirst, room, sameKey, setupLines, stepOf, finish}
-use Rattle.rules.proofs.Compared.{compares-last}
+use Rattle.rules.proofs.Compared.{compares-all, compares-last}
 use Rattle.rules.proofs.Good.{good-is}
 use Rattle.rules.specs.Send.{sectionCount, sections, sendingNumber, sendLines, SendOutcome, sentOf, written}
 use Rattle.rules.proofs.Send.{cut, one-cut, sections-bytes}
@@ -96,16 +98,21 @@ unfolding check
 check-means s n = rw (or-zero (checkLines s)) (gives-check s 0 _ (λ _. gives-last 0 tt) .exactly n)
 
 -- ---- states, addresses
-state-tells : (σ : State) → Tells (goodState σ) (GoodState σ)
-unfolding goodState GoodState goodRun
-state-tells Idle = (λ _. tt, λ _. refl)
-state-tells (Open e f κ) =
-    let t = tells-both _ _ (tells-both _ _ (tells-le 1 e) (tells-both _ _ (tells-le e (κ .last)) (tells-le (κ .last) 254))) (tells-both _ _ (tells-le f 65535) (tells-le f (4080 * e))) in
-    (λ p. let w = t .0 p in (w .0 .0, w .0 .1 .0, w .0 .1 .1, w .1 .0, w .1 .1), λ w. t .1 ((w .0, (w .1, w .2)), (w .3, w .4)))
+own-tells : (c : Settings) (a : Address) → Tells (sameAddress (c .range) (c .address) a) (Own c a)
+own-tells c a = compares-last (c .range) (c .address) a
 
-own-tells : (c : Settings) (s : List ℕ) → Tells (ours c s) (SameAddress c s)
+pub state-tells : (c : Settings) (σ : State) → Tells (goodState c σ) (GoodState c σ)
+unfolding goodState GoodState goodRun
+state-tells c Idle = (λ _. tt, λ _. refl)
+state-tells c (Open e f κ) =
+    let numbers = tells-both _ _ (tells-le 1 e) (tells-both _ _ (tells-le e (κ .last)) (tells-le (κ .last) 254)) in
+    let bytes = tells-both _ _ (tells-le f 65535) (tells-le f (4080 * e)) in
+    let t = tells-both _ _ (tells-both _ _ numbers bytes) (own-tells c (κ .address)) in
+    (λ p. let w = t .0 p in (w .0 .0 .0, w .0 .0 .1 .0, w .0 .0 .1 .1, w .0 .1 .0, w .0 .1 .1, w .1), λ w. t .1 (((w .0, (w .1, w .2)), (w .3, w .4)), w .5))
+
+ours-tells : (c : Settings) (s : List ℕ) → Tells (ours c s) (Own c (printed s))
 unfolding ours address
-own-tells c s = compares-last (c .range) (c .address) (address s)
+ours-tells c s = own-tells c (address s)
 
 -- ---- a run that goes on
 flag-tells : (x : ℕ) (t : Bool) → x < 2 → Tells (Bool·beq (eqb x 1) t) (x ≡ pick t 1 0)
@@ -119,10 +126,11 @@ flag-tells x t h = go (eqb x 1) refl t
     go false e false = let other : x ≡ 1 → ⊥ = eqb-false x 1 e in (λ _. omega arith, λ _. refl)
 
 continues-tells : (e f : ℕ) (κ : Key) (s : List ℕ) → Tells (continues e κ s) (GoesOn (Open e f κ) s)
-unfolding continues sameKey keyOf GoesOn sectionNumber lastSectionNumber llcSnapFlag
+unfolding continues sameKey keyOf GoesOn address sectionNumber lastSectionNumber llcSnapFlag
 continues-tells e f κ s =
-    let t = tells-both _ _ (tells-eq (byteAt s 6) e) (tells-both _ _ (tells-eq (byteAt s 7) (κ .last)) (flag-tells (bit 1 (byteAt s 5)) (κ .«llc_snap») (omega arith))) in
-    (λ p. let w = t .0 p in (w .0, w .1 .0, w .1 .1), λ w. t .1 (w .0, (w .1, w .2)))
+    let numbers = tells-both _ _ (tells-eq (byteAt s 7) (κ .last)) (flag-tells (bit 1 (byteAt s 5)) (κ .«llc_snap») (omega arith)) in
+    let t = tells-both _ _ (tells-eq (byteAt s 6) e) (tells-both _ _ (compares-all (address s) (κ .address)) numbers) in
+    (λ p. let w = t .0 p in (w .0, w .1 .1 .0, w .1 .1 .1, w .1 .0), λ w. t .1 (w .0, (w .3, (w .1, w .2))))
 
 -- ---- the number of an outcome
 abbrev number : Outcome → ℕ
@@ -231,9 +239,9 @@ unfolding orElse setupLines ownLines payloadScrambled overLimit payloadScramblin
 receiver-means c σ s b n =
     rw (number-step c σ s b)
     (gives-row _ 10 (tells-not _ (good-is c)) (λ _.
-    gives-row _ 11 (tells-not _ (state-tells σ)) (λ _.
+    gives-row _ 11 (tells-not _ (state-tells c σ)) (λ _.
     gives-check s _ _ (λ l.
-    gives-row _ 2 (tells-not _ (own-tells c s)) (λ _.
+    gives-row _ 2 (tells-not _ (ours-tells c s)) (λ _.
     gives-row _ 20 (tells-not _ (tells-eq (bits 5 4 (byteAt s 5)) 0)) (λ _.
     gives-row _ 21 (tells-lt (c .limit) (byteAt s 7 + 1)) (λ _. gives-filled s b σ l)))))) .exactly n)
 

@@ -12,7 +12,7 @@ use Rattle.rules.specs.Step.{gapOf, goodSettings, goodState}
 use Rattle.rules.specs.Row.{Event, section, gap, Held, fresh, next, after, nothing, datagram, handedBy, handedOver}
 use Rattle.rules.proofs.Tested.{elsewhere, strike, Ready, RowTheorem}
 use Rattle.rules.proofs.Runs.{no-gap}
-use Rattle.rules.proofs.Track.{good-state}
+use Rattle.rules.proofs.Made.{made-good}
 use Rattle.rules.proofs.Due.{no-datagram, passes, Holds, started, due-holds, due-hands, due}
 
 -- ---- the struck row
@@ -36,29 +36,26 @@ strike-kept c r e p = strike-append c r (e ∷ []) ∙ rw (strike-one c e false 
 
 -- ---- struck events
 -- state and buffer stay as they are
-pub struck-held : (c : Settings) (h : Held) (e : Event) → goodSettings c ≡ true → goodState (h .state) ≡ true
+pub struck-held : (c : Settings) (h : Held) (e : Event) → goodSettings c ≡ true → goodState c (h .state) ≡ true
     → elsewhere c e ≡ true → next c h e ≡ h
 unfolding next elsewhere
 struck-held c h (section s) good fine struck = rw (passes c (h .state) s (h .buffer) good fine struck)
 struck-held c h gap good fine struck = absurd (never struck)
 
 -- nothing is handed over
-struck-hands : (c : Settings) (h : Held) (e : Event) → goodSettings c ≡ true → goodState (h .state) ≡ true
+struck-hands : (c : Settings) (h : Held) (e : Event) → goodSettings c ≡ true → goodState c (h .state) ≡ true
     → elsewhere c e ≡ true → handedOver c h e ≡ nothing
 unfolding handedOver handedBy elsewhere
 struck-hands c h (section s) good fine struck = rw (passes c (h .state) s (h .buffer) good fine struck)
 struck-hands c h gap good fine struck = refl
 
 module _ (c : Settings) (b : List ℕ) (good : goodSettings c ≡ true) where
-  good-held : {past : List Event} {h : Held} → Holds c b past h → goodState (h .state) ≡ true
-  good-held {past} {h} i = good-state c b past (h .state) (h .buffer) good (i .track)
-
   -- ---- any other event
   kept-holds : (past : List Event) (h : Held) (e : Event) → Holds c b past h → elsewhere c e ≡ false
       → Holds c b (past ++ (e ∷ [])) (next c h e)
-  unfolding next gapOf
-  kept-holds past h (section s) i kept = due-holds c b (i .size) (due c b past h i s good kept)
-  kept-holds past h gap i kept = record { size = i .size; track = λ κ xs e some partial. no-gap past (e .there) some }
+  unfolding next gapOf goodState
+  kept-holds past h (section s) i kept = due-holds c b (i .size) (made-good c (h .state) s (h .buffer)) (due c b past h i s good kept)
+  kept-holds past h gap i kept = record { size = i .size; good = refl; track = λ κ xs e some partial. no-gap past (e .there) some }
 
   kept-hands : (past : List Event) (h : Held) (e : Event) → Holds c b past h → elsewhere c e ≡ false
       → (n : ℕ) (d : List ℕ) → (handedOver c h e ≡ datagram n d) ↔ Ready c b (past ++ (e ∷ [])) n d
@@ -73,7 +70,7 @@ module _ (c : Settings) (b : List ℕ) (good : goodSettings c ≡ true) where
   event-holds past h e i = go (elsewhere c e) refl
     where
       go : (t : Bool) → elsewhere c e ≡ t → Holds c b (past ++ strike c (e ∷ [])) (next c h e)
-      go true p = rw (strike-one c e true p, append-nil past, struck-held c h e good (good-held i) p) i
+      go true p = rw (strike-one c e true p, append-nil past, struck-held c h e good (i .good) p) i
       go false p = rw (strike-one c e false p) (kept-holds past h e i p)
 
   row-holds : (r past : List Event) (h : Held) → Holds c b past h → Holds c b (past ++ strike c r) (after c h r)
@@ -87,8 +84,8 @@ module _ (c : Settings) (b : List ℕ) (good : goodSettings c ≡ true) where
   from-fresh r = row-holds r [] (fresh b) (started c b)
 
   -- the state that is handed on is good
-  pub good-kept : (r : List Event) → goodState (after c (fresh b) r .state) ≡ true
-  good-kept r = good-held (from-fresh r)
+  pub good-kept : (r : List Event) → goodState c (after c (fresh b) r .state) ≡ true
+  good-kept r = from-fresh r .good
 
 pub row-theorem : RowTheorem
 row-theorem c b good r e =

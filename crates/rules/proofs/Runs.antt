@@ -13,7 +13,6 @@ use Rattle.rules.specs.Step.{room}
 use Rattle.rules.specs.Row.{Event, section, gap}
 use Rattle.rules.proofs.Tested.{joined, Ends, InRun, Run, WholeRun}
 use Rattle.rules.proofs.Lists.{length-more, map-more, split-last, first-parts}
-use Rattle.rules.proofs.Sound.{payload-small}
 
 pub joined-more : (xs : List (List ℕ)) (s : List ℕ) → joined (xs ++ (s ∷ [])) ≡ joined xs ++ payload s
 unfolding joined
@@ -52,16 +51,6 @@ no-gap past {xs} e some =
     omega arith
 
 module _ (c : Settings) (b : List ℕ) where
-  -- no more bytes than its sections can carry
-  pub run-bytes : {κ : Key} {xs : List (List ℕ)} → Run c b κ xs → length (joined xs) ≤ 4080 * length xs
-  unfolding joined
-  run-bytes {κ} {xs} r = go xs (λ i h. payload-small _ (r .each i h .receivable .sound))
-    where
-      go : (ys : List (List ℕ)) → ((i : ℕ) → i < length ys → length (payload (getD ys i [])) ≤ 4080)
-          → length (joined ys) ≤ 4080 * length ys
-      go [] h = omega arith
-      go (y ∷ ys) h = simp length-append (omega (arith, go ys (λ i k. h (suc i) (omega arith)), h 0 (omega arith)))
-
   -- the row ends in the run xs
   pub record EndsIn (row : List Event) (κ : Key) (xs : List (List ℕ)) : Type 0 where
     pub run : Run c b κ xs

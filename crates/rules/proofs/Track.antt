@@ -16,7 +16,7 @@ use Rattle.rules.specs.declared.State.{State}
 use Rattle.rules.specs.declared.State.the-variants.{Idle, Open}
 use Rattle.rules.specs.Check.{check}
 use Rattle.rules.specs.Section.{sectionNumber, lastSectionNumber, payload}
-use Rattle.rules.specs.Step.{continues, goodRun, goodSettings, goodState, keyOf, laid, onward}
+use Rattle.rules.specs.Step.{continues, keyOf, laid, onward}
 use Rattle.rules.specs.Step.{Nowhere, From, fillFrom, room}
 use Rattle.rules.specs.Row.{Event, section}
 use Rattle.rules.proofs.Tested.{joined, Receivable, InRun}
@@ -24,19 +24,15 @@ use Rattle.rules.proofs.Lists.{length-more}
 use Rattle.rules.proofs.Keys.{same-key, key-same}
 use Rattle.wire.proofs.Choice.{both-true}
 use Rattle.rules.proofs.Sound.{sound}
-use Rattle.rules.proofs.Runs.{EndsIn, Same, none, more, only, run-bytes, joined-more, joined-length}
+use Rattle.rules.proofs.Runs.{EndsIn, Same, none, more, only, joined-more, joined-length}
 
--- ---- what the row theory knows of a section's numbers, of the limit, of the room and of the buffer
+-- ---- what the row theory knows of a section's numbers, of the room and of the buffer
 pub key-last : (s : List ℕ) → keyOf s .last ≡ lastSectionNumber s
 unfolding keyOf
 key-last s = refl
 
 pub in-order : (s : List ℕ) → check s ≡ 0 → sectionNumber s ≤ keyOf s .last
 in-order s p = rw (key-last s) (sound s p .shared .order)
-
-limit-small : (c : Settings) → goodSettings c ≡ true → c .limit ≤ 255
-unfolding goodSettings
-limit-small c p = leb-true _ _ (both-true _ _ (both-true _ _ p .1) .1)
 
 pub room-bounds : (b : List ℕ) → (room b ≤ 65535) × (room b ≤ length b)
 unfolding room
@@ -84,22 +80,6 @@ module _ (c : Settings) (b : List ℕ) where
       let p : InRun c κ 0 (getD xs 0 []) = e .run .each 0 some in
       let last : keyOf (getD xs 0 []) .last + 1 ≤ c .limit = rw (key-last (getD xs 0 [])) (p .receivable .within) in
       rw (p .agrees) at last
-
-  -- such a state is good
-  pub good-state : (row : List Event) (σ : State) (now : List ℕ) → goodSettings c ≡ true → Track row σ now → goodState σ ≡ true
-  unfolding goodState goodRun both
-  good-state row Idle now p t = refl
-  good-state row (Open e f κ) now p t =
-      let g = t .gathered in
-      let size : length (joined (g .sections)) ≤ 4080 * length (g .sections) = run-bytes c b (g .run .run) in
-      let last : κ .last + 1 ≤ c .limit = within (g .run) (omega (arith, g .count, t .some)) in
-      rw (
-        le-leb 1 e (t .some),
-        le-leb e (κ .last) (t .partial),
-        le-leb (κ .last) 254 (omega (arith, limit-small c p)),
-        le-leb f 65535 (omega (arith, g .filled, g .run .run .fits, room-bounds b .0)),
-        le-leb f (4080 * e) (omega (arith, g .filled, g .count)),
-      )
 
   -- ---- where a section's payload goes
   -- a section whose payload goes somewhere goes on with a run that the row ends in

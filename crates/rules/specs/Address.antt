@@ -1,5 +1,5 @@
 -- Which bytes of two addresses are compared: EN 301 192 V1.3.1, table 7; document 01, 'Settings'.
-use Prim.Native.Nat.{ℕ, _-_, _≤_}
+use Prim.Native.Nat.{ℕ, _+_, _-_, _≤_}
 use mathlib.Core.Path.{_≡_}
 use mathlib.Core.List.{List, [], _∷_}
 use mathlib.Core.Bool.{Bool}
@@ -23,6 +23,18 @@ sameAddress range a b =
 -- in printed order, MAC_address_1 first
 abbrev pub addressBytes : Address → List ℕ
 addressBytes a = a .mac1 ∷ a .mac2 ∷ a .mac3 ∷ a .mac4 ∷ a .mac5 ∷ a .mac6 ∷ []
+
+-- the address that stands at i in printed order
+unfoldable pub addressAt : List ℕ → ℕ → Address
+addressAt s i =
+    record {
+      mac1 = byteAt s i;
+      mac2 = byteAt s (i + 1);
+      mac3 = byteAt s (i + 2);
+      mac4 = byteAt s (i + 3);
+      mac5 = byteAt s (i + 4);
+      mac6 = byteAt s (i + 5);
+    }
 
 -- of two addresses, as they are printed, the last n bytes are equal: what a MAC_address_range of n compares
 abbrev pub LastEqual : ℕ → List ℕ → List ℕ → Type 0

@@ -1,5 +1,5 @@
 -- What goes with each number: document 01, 'The receiver', the column 'state after', and what is stored and handed back; 'The sender'.
--- Theorems, shown in proofs/After.antt.
+-- Theorems, shown in proofs/After.antt and proofs/Made.antt.
 use Prim.Native.Nat.{ℕ, _+_, _-_}
 use mathlib.Core.Path.{_≡_}
 use mathlib.Core.Logic.{_≢_}
@@ -14,7 +14,7 @@ use Rattle.rules.specs.declared.Settings.{Settings}
 use Rattle.rules.specs.declared.State.{State}
 use Rattle.rules.specs.declared.State.the-variants.{Idle, Open}
 use Rattle.rules.specs.Demand2.{Sections}
-use Rattle.rules.specs.Meaning.{filledBefore}
+use Rattle.rules.specs.Meaning.{filledBefore, GoodState, printed}
 use Rattle.rules.specs.Send.{sendingLength, sendingNumber, SendOutcome, sentOf}
 use Rattle.rules.specs.Step.{lengthOf, numberOf, Outcome, stepOf}
 
@@ -27,9 +27,9 @@ stored s = take (length s - 16) (drop 12 s)
 abbrev pub storedAt : ℕ → List ℕ → List ℕ → List ℕ
 storedAt f p b = take f b ++ (p ++ drop (f + length p) b)
 
--- the run after this section, with f bytes filled: the next number, the last number and the LLC_SNAP_flag
+-- the run after this section, with f bytes filled: the next number, all six bytes of the address, the last number and the LLC_SNAP_flag
 abbrev pub runAfter : List ℕ → ℕ → State
-runAfter s f = Open (byteAt s 6 + 1) f (record { last = byteAt s 7; «llc_snap» = eqb (bit 1 (byteAt s 5)) 1 })
+runAfter s f = Open (byteAt s 6 + 1) f (record { address = printed s; last = byteAt s 7; «llc_snap» = eqb (bit 1 (byteAt s 5)) 1 })
 
 -- with the number n of the answer to s, given the state σ and the buffer b: the unit length, the state τ and the buffer d
 pub record ReceiverAfter (σ : State) (s b : List ℕ) (n unit : ℕ) (τ : State) (d : List ℕ) : Type 0 where
@@ -44,6 +44,10 @@ abbrev pub ReceiverGives : Type 0
 ReceiverGives =
     (c : Settings) (σ : State) (s b : List ℕ) → let o : Outcome = stepOf c σ s b in
     ReceiverAfter σ s b (numberOf (o .step .answer)) (lengthOf (o .step .answer)) (o .step .state) (o .buffer)
+
+-- a state that the receiver has made is good for the same settings, whatever state it was given: document 02, request 5
+abbrev pub MadeGood : Type 0
+MadeGood = (c : Settings) (σ : State) (s b : List ℕ) → GoodState c (stepOf c σ s b .step .state)
 
 -- within Rattle an answer has a name beside its number, and a number goes with one name only
 pub record NamedByNumber (a : Answer) : Type 0 where

@@ -1,4 +1,5 @@
--- Demand 3 by values and bytes alone, with none of the receiver's own tests. A theorem, shown in proofs/Demand3.antt.
+-- Demand 3, and document 02, request 5, by values and bytes alone, with none of the receiver's own tests. A theorem, shown in
+-- proofs/Demand3.antt.
 use Prim.Native.Nat.{ℕ, _+_, _≤_}
 use mathlib.Core.Path.{_≡_}
 use mathlib.Core.Logic.{_↔_, _⊎_}
@@ -6,9 +7,9 @@ use mathlib.Core.List.{List, [], _∷_, _++_, map}
 use mathlib.Core.Bool.{Bool}
 use lib.ListN.{length}
 use Rattle.wire.specs.Bytes.{Bytes}
+use Rattle.rules.specs.declared.Address.{Address}
 use Rattle.rules.specs.declared.Settings.{Settings}
-use Rattle.rules.specs.Address.{addressBytes, LastEqual}
-use Rattle.rules.specs.Meaning.{Good}
+use Rattle.rules.specs.Meaning.{Good, Own}
 use Rattle.rules.specs.Sound.{Limits, table3, Values}
 use Rattle.rules.specs.Row.{after, datagram, Event, fresh, gap, Handed, handedOver, nothing, section}
 
@@ -18,16 +19,12 @@ OfBytes [] = Unit
 OfBytes (section s ∷ r) = Bytes s × OfBytes r
 OfBytes (gap ∷ r) = OfBytes r
 
--- for this address: as many of the last bytes as the range says are the own address's
-abbrev pub Own : Settings → Values → Type 0
-Own c v = LastEqual (c .range) (addressBytes (c .address)) (addressBytes (v .address))
-
 -- a sound section for another address
 pub record Elsewhere (c : Settings) (e : Event) : Type 0 where
   pub values : Values
   pub limits : Limits values
   pub is : e ≡ section (table3 values)
-  pub other : ¬ Own c values
+  pub other : ¬ Own c (values .address)
 
 -- t is the row r with the sound sections for other addresses struck out
 unfoldable pub Struck : Settings → List Event → List Event → Type 0
@@ -37,14 +34,15 @@ Struck c (e ∷ r) t = (Elsewhere c e × Struck c r t) ⊎ ((¬ Elsewhere c e) �
 -- sound, for this address, not scrambled (20), and its last number within the section limit (21)
 pub record Receivable (c : Settings) (v : Values) : Type 0 where
   pub limits : Limits v
-  pub own : Own c v
+  pub own : Own c (v .address)
   pub clear : v .scrambling ≡ 0
   pub within : v .last + 1 ≤ c .limit
 
--- section i of a run with this last number and this flag
-pub record InRun (c : Settings) (last : ℕ) (llcSnap : Bool) (i : ℕ) (v : Values) : Type 0 where
+-- section i of a run of this full address, all six bytes, with this last number and this flag
+pub record InRun (c : Settings) (address : Address) (last : ℕ) (llcSnap : Bool) (i : ℕ) (v : Values) : Type 0 where
   pub receivable : Receivable c v
   pub numbered : v .number ≡ i
+  pub addressed : v .address ≡ address
   pub ending : v .last ≡ last
   pub flagged : v .llcSnap ≡ llcSnap
 
@@ -53,13 +51,14 @@ unfoldable pub joined : List Values → List ℕ
 joined [] = []
 joined (v ∷ r) = v .payload ++ joined r
 
--- under good settings, sections numbered from 0 up to their last number, each by how many stand before it; 65,535 bytes at most,
--- and no more than the buffer
+-- under good settings, sections of one full address numbered from 0 up to their last number, each by how many stand before it; 65,535
+-- bytes at most, and no more than the buffer
 pub record WholeRun (c : Settings) (b : List ℕ) (vs : List Values) : Type 0 where
   pub good : Good c
+  pub address : Address
   pub last : ℕ
   pub llcSnap : Bool
-  pub each : (front back : List Values) (v : Values) → vs ≡ front ++ (v ∷ back) → InRun c last llcSnap (length front) v
+  pub each : (front back : List Values) (v : Values) → vs ≡ front ++ (v ∷ back) → InRun c address last llcSnap (length front) v
   pub whole : length vs ≡ last + 1
   pub unit : length (joined vs) ≤ 65535
   pub room : length (joined vs) ≤ length b

@@ -1,5 +1,5 @@
--- What each number means, in the papers' order and words: document 01, 'The receiver', 'The sender'; document 02, request 2. By bytes, bits
--- and lengths, with none of the receiver's own tests. Theorems, shown in proofs/Meaning.antt and, of request 2, proofs/Split.antt.
+-- What each number means, in the papers' order and words: document 01, 'The receiver', 'The sender'; document 02, requests 2, 5 and 7. By
+-- bytes, bits and lengths, with none of the receiver's own tests. Theorems, shown in proofs/Meaning.antt and, of request 2, proofs/Split.antt.
 use Prim.Native.Nat.{ℕ, zero, suc, _+_, _*_, _-_, _%_, _^_, _≤_, _<_, min}
 use mathlib.Core.Path.{_≡_}
 use mathlib.Core.Logic.{_↔_, _≢_, _⊎_}
@@ -9,6 +9,7 @@ use lib.ListN.{length, take}
 use Rattle.wire.specs.Bytes.{bit, bits, byteAt, numberAt}
 use Rattle.wire.specs.Choice.{pick}
 use Rattle.wire.specs.Meaning.{FirstThat, otherwise, Outside, Row, _means_}
+use Rattle.rules.specs.declared.Address.{Address}
 use Rattle.rules.specs.declared.Settings.{Settings}
 use Rattle.rules.specs.declared.State.{State}
 use Rattle.rules.specs.declared.State.the-variants.{Idle, Open}
@@ -84,24 +85,27 @@ pub record Good (c : Settings) : Type 0 where
   pub limit1 : 1 ≤ c .limit
   pub limit255 : c .limit ≤ 255
 
--- 1 ≤ e ≤ L ≤ 254, f ≤ 65,535 and f ≤ 4,080 e
-unfoldable pub GoodState : State → Type 0
-GoodState Idle = Unit
-GoodState (Open e f κ) = (1 ≤ e) × (e ≤ κ .last) × (κ .last ≤ 254) × (f ≤ 65535) × (f ≤ 4080 * e)
+-- for this address: as many of the last bytes as the range says are the own address's
+abbrev pub Own : Settings → Address → Type 0
+Own c a = LastEqual (c .range) (addressBytes (c .address)) (addressBytes a)
+
+-- 1 ≤ e ≤ L ≤ 254, f ≤ 65,535 and f ≤ 4,080 e; the kept bytes are the own where compared (document 02, request 5)
+unfoldable pub GoodState : Settings → State → Type 0
+GoodState c Idle = Unit
+GoodState c (Open e f κ) =
+    (1 ≤ e) × (e ≤ κ .last) × (κ .last ≤ 254) × (f ≤ 65535) × (f ≤ 4080 * e) × Own c (κ .address)
 
 -- ---- the receiver
 -- MAC_address_1 to 6 of a section, as an address is printed
-abbrev pub printed : List ℕ → List ℕ
-printed s = byteAt s 11 ∷ byteAt s 10 ∷ byteAt s 9 ∷ byteAt s 8 ∷ byteAt s 4 ∷ byteAt s 3 ∷ []
+abbrev pub printed : List ℕ → Address
+printed s =
+    record { mac1 = byteAt s 11; mac2 = byteAt s 10; mac3 = byteAt s 9; mac4 = byteAt s 8; mac5 = byteAt s 4; mac6 = byteAt s 3 }
 
--- as many of the last bytes as the range says are the own address's
-abbrev pub SameAddress : Settings → List ℕ → Type 0
-SameAddress c s = LastEqual (c .range) (addressBytes (c .address)) (printed s)
-
--- the number is e, the last number L, the LLC_SNAP_flag the run's
+-- the number is e, the last number L, the LLC_SNAP_flag the run's, and so are all six bytes of the address (document 02, request 5)
 unfoldable pub GoesOn : State → List ℕ → Type 0
 GoesOn Idle s = ⊥
-GoesOn (Open e f κ) s = (byteAt s 6 ≡ e) × (byteAt s 7 ≡ κ .last) × (bit 1 (byteAt s 5) ≡ pick (κ .«llc_snap») 1 0)
+GoesOn (Open e f κ) s =
+    (byteAt s 6 ≡ e) × (byteAt s 7 ≡ κ .last) × (bit 1 (byteAt s 5) ≡ pick (κ .«llc_snap») 1 0) × (printed s ≡ κ .address)
 
 -- f, and 0 for number 0
 unfoldable pub filledBefore : State → ℕ → ℕ
@@ -112,9 +116,9 @@ filledBefore (Open e f κ) (suc i) = f
 abbrev pub receiverRows : Settings → State → List ℕ → List ℕ → List Row
 receiverRows c σ s b =
     10 means (¬ Good c)
-    ∷ 11 means (¬ GoodState σ)
+    ∷ 11 means (¬ GoodState c σ)
     ∷ (sectionRows s
-    ++ (2 means (¬ SameAddress c s)
+    ++ (2 means (¬ Own c (printed s))
     ∷ 20 means (bits 5 4 (byteAt s 5) ≢ 0)
     ∷ 21 means (c .limit < byteAt s 7 + 1)
     ∷ 22 means ((byteAt s 6 ≢ 0) × (¬ GoesOn σ s))

@@ -1,4 +1,5 @@
--- What one section does to the receiver: document 01, 'The receiver'. The answer, the state after and the buffer after.
+-- What one section does to the receiver: document 01, 'The receiver'; document 02, request 5. The answer, the state after and the buffer
+-- after.
 use Prim.Native.Nat.{ℕ, _+_, _*_, min}
 use mathlib.Core.Path.{_≡_}
 use mathlib.Core.List.{List, [], _∷_}
@@ -42,23 +43,25 @@ goodSettings c = both (both (leb 1 (c .range)) (leb (c .range) 6)) (both (leb 1 
 unfoldable pub goodRun : ℕ → ℕ → ℕ → Bool
 goodRun e l f = both (both (leb 1 e) (both (leb e l) (leb l 254))) (both (leb f 65535) (leb f (4080 * e)))
 
-unfoldable pub goodState : State → Bool
-goodState Idle = true
-goodState (Open e f κ) = goodRun e (κ .last) f
+-- an open run's kept bytes are also the own where compared: document 02, request 5
+unfoldable pub goodState : Settings → State → Bool
+goodState c Idle = true
+goodState c (Open e f κ) = both (goodRun e (κ .last) f) (sameAddress (c .range) (c .address) (κ .address))
 
 -- 10 and 11, before a section is looked at
 unfoldable pub setupLines : Settings → State → List Line
-setupLines c σ = line 10 (not (goodSettings c)) ∷ line 11 (not (goodState σ)) ∷ []
+setupLines c σ = line 10 (not (goodSettings c)) ∷ line 11 (not (goodState c σ)) ∷ []
 
 -- ---- runs
 -- what a section says of its run
 unfoldable pub keyOf : List ℕ → Key
-keyOf s = record { last = lastSectionNumber s; «llc_snap» = llcSnapFlag s }
+keyOf s = record { address = address s; last = lastSectionNumber s; «llc_snap» = llcSnapFlag s }
 
+-- all six bytes of the address, whatever the range: document 02, request 5
 unfoldable pub sameKey : Key → Key → Bool
-sameKey a b = both (eqb (a .last) (b .last)) (Bool·beq (a .«llc_snap») (b .«llc_snap»))
+sameKey a b = both (sameAddress 6 (a .address) (b .address)) (both (eqb (a .last) (b .last)) (Bool·beq (a .«llc_snap») (b .«llc_snap»)))
 
--- the section goes on with an open run: its number is e, and it has the run's last number and flag
+-- the section goes on with an open run: its number is e, and it has the run's address, last number and flag
 unfoldable pub continues : ℕ → Key → List ℕ → Bool
 continues e κ s = both (eqb (sectionNumber s) e) (sameKey (keyOf s) κ)
 

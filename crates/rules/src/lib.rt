@@ -25,8 +25,9 @@ pub struct Settings {
     pub limit: usize,
 }
 
-// What the sections of one run agree on: last_section_number and LLC_SNAP_flag.
+// What the sections of one run agree on: all six bytes of the address, last_section_number and LLC_SNAP_flag.
 pub struct Key {
+    pub address: Address,
     pub last: usize,
     pub llc_snap: bool,
 }

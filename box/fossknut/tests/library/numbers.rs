@@ -1,4 +1,4 @@
-//! The second program's values in the library's numbers.
+//! The second program's values in the library's numbers and bytes.
 
 use crate::ffi;
 use second::pes::Packet;
@@ -12,13 +12,17 @@ pub(crate) fn settings(second: &Settings) -> fossknut::Settings {
     }
 }
 
+/// Two bytes for each number, and four for what is filled.
 pub(crate) fn state(second: Option<Run>) -> ffi::State {
+    let two = |number: usize| u16::try_from(number).expect("two bytes").to_be_bytes();
+    let four = |number: usize| u32::try_from(number).expect("four bytes").to_be_bytes();
     second.map_or_else(ffi::State::default, |run| ffi::State {
         run: 1,
-        next: run.next,
-        last: run.last,
-        filled: run.filled,
         llc_snap: run.llc_snap.into(),
+        next: two(run.next),
+        last: two(run.last),
+        filled: four(run.filled),
+        address: run.address,
     })
 }
 

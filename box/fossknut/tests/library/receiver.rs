@@ -160,7 +160,7 @@ fn settings_and_states_of_any_value() {
         } else {
             good_settings(&mut random)
         };
-        let run = any_state(&mut random);
+        let run = any_state(&mut random, &settings);
         let section = short_nearly_continuing(&mut random, &settings, &run);
         let near = run.filled.min(66_000) + section.len().saturating_sub(16);
         let length = match random.below(32) {
@@ -182,13 +182,14 @@ fn settings_and_states_of_any_value() {
     tally.assert_all((0..=2).chain(10..=24), 20);
 }
 
+/// READINGS B12: what an idle state has beside its `run` means nothing, and is given back as zeros.
 #[test]
-fn idle_with_any_numbers() {
+fn idle_with_any_bytes() {
     let mut memory = Memory::new();
     let mut random = Random::new(4);
     for _ in 0..2_000 {
         let settings = good_settings(&mut random);
-        let run = any_state(&mut random);
+        let run = any_state(&mut random, &settings);
         let section = short_nearly_continuing(&mut random, &settings, &run);
         let mut pair = memory.pair(Receiver::new(settings, vec![0; 100]));
         pair.state = ffi::State {
@@ -199,39 +200,42 @@ fn idle_with_any_numbers() {
     }
 }
 
-/// Answer 2 leaves the state as given, in the numbers that a state has: others are rewritten.
+/// Answer 2 leaves the state as given, in the bytes that a state has: others are rewritten.
 #[test]
-fn passed_by_rewrites_numbers_that_no_state_has() {
+fn passed_by_rewrites_bytes_that_no_state_has() {
     let ours = fossknut::Settings {
         address: second::generator::OURS,
         range: 6,
         limit: 16,
     };
     let others = sound([0; 6], 0, 0, b"knut");
+    let kept = ffi::State {
+        run: 1,
+        llc_snap: 1,
+        next: [0, 2],
+        last: [0, 3],
+        filled: [0, 0, 0, 5],
+        address: ours.address,
+    };
     let passed_by = |run, llc_snap| {
         let mut state = ffi::State {
             run,
-            next: 2,
-            last: 3,
-            filled: 5,
             llc_snap,
+            ..kept
         };
         let mut buffer = *b"Fosskn";
         let answer = ffi::receive(&ours, &mut state, &others, &mut buffer);
         assert_eq!((answer, buffer), ((2, 0), *b"Fosskn"));
         state
     };
-    let open = |llc_snap| ffi::State {
-        run: 1,
-        next: 2,
-        last: 3,
-        filled: 5,
-        llc_snap,
+    let clear = ffi::State {
+        llc_snap: 0,
+        ..kept
     };
-    assert_eq!(passed_by(1, 1), open(1));
-    assert_eq!(passed_by(7, 0), open(0));
-    assert_eq!(passed_by(7, 2), open(1));
-    assert_eq!(passed_by(255, 255), open(1));
+    assert_eq!(passed_by(1, 1), kept);
+    assert_eq!(passed_by(7, 0), clear);
+    assert_eq!(passed_by(7, 2), kept);
+    assert_eq!(passed_by(255, 255), kept);
     assert_eq!(passed_by(0, 1), ffi::State::default());
 }
 
@@ -239,10 +243,11 @@ fn passed_by_rewrites_numbers_that_no_state_has() {
 fn gap_notices_in_any_state() {
     let mut random = Random::new(5);
     for _ in 0..10_000 {
+        let settings = good_settings(&mut random);
         let mut state = ffi::State {
             run: random.byte(),
             llc_snap: random.byte(),
-            ..numbers::state(Some(any_state(&mut random)))
+            ..numbers::state(Some(any_state(&mut random, &settings)))
         };
         ffi::gap(&mut state);
         assert_eq!(state, ffi::State::default());
@@ -266,6 +271,71 @@ fn every_bit_of_the_address_at_every_range() {
             let compared = bit / 8 >= 6 - range;
             assert_eq!(number, if compared { 2 } else { 0 }, "{bit} of {range}");
         }
+    }
+}
+
+/// 11 where the kept address differs in a bit that is compared, else the section decides: one for the
+/// own address gets 22, one for the kept address goes on with the run.
+#[test]
+fn every_bit_of_the_kept_address_at_every_range() {
+    let mut memory = Memory::new();
+    let mut random = Random::new(8);
+    for range in 1..=6 {
+        let settings = Settings {
+            range,
+            ..good_settings(&mut random)
+        };
+        for bit in 0..48 {
+            let mut address = settings.address;
+            address[bit / 8] ^= 1 << (bit % 8);
+            let compared = bit / 8 >= 6 - range;
+            for (of, number) in [(settings.address, 22), (address, 0)] {
+                let number = if compared { 11 } else { number };
+                let run = Run {
+                    next: 1,
+                    last: 1,
+                    filled: 0,
+                    llc_snap: false,
+                    address,
+                };
+                let mut pair = memory.pair(Receiver {
+                    state: Some(run),
+                    ..Receiver::new(settings, vec![0; 4])
+                });
+                let (answer, _) = pair.receive(&sound(of, 1, 1, b"knut"));
+                assert_eq!(answer, number, "{bit} of {range}");
+            }
+        }
+    }
+}
+
+/// A state whose neighbours may not be touched, on either side.
+#[test]
+fn sixteen_bytes_of_state() {
+    let settings = fossknut::Settings {
+        address: second::generator::OURS,
+        range: 1,
+        limit: 16,
+    };
+    let sister = [0, 0x11, 0x22, 0x33, 0x44, 0x30];
+    let section = sound(sister, 0, 2, b"Foss");
+    let open = [&[1, 0, 0, 1, 0, 2, 0, 0, 0, 4], &sister[..]].concat();
+    let mut memory = Guarded::new();
+    for at_end in [true, false] {
+        let bytes = if at_end {
+            memory.at_end(&[0; 16])
+        } else {
+            memory.at_start(&[0; 16])
+        };
+        // SAFETY: a state is sixteen bytes of any value, and these are lent to nobody else.
+        let state = unsafe { &mut *bytes.as_mut_ptr().cast::<ffi::State>() };
+        let answer = ffi::receive(&settings, state, &section, &mut [0; 4]);
+        assert_eq!(answer, (1, 0));
+        // SAFETY: as above, the other way.
+        let bytes = unsafe { *(state as *const ffi::State).cast::<[u8; 16]>() };
+        assert_eq!(bytes[..], open);
+        ffi::gap(state);
+        assert_eq!(*state, ffi::State::default());
     }
 }
 

@@ -1,7 +1,10 @@
-//! Rows of events as a bad night makes them: sections lost, doubled, swapped, damaged, and others'
-//! between ours.
+//! Rows of events as a bad night makes them: sections lost, doubled, swapped, damaged, others' between
+//! ours, and those of sisters mixed.
+//!
+//! Sisters are addresses that are the same where they are compared, and differ elsewhere: a receiver
+//! with a range below 6 takes the sections of all of them (02, request 5).
 
-use super::{faulty, seal, set_indicators, sound, CHECKS, CHECKSUM_FORM};
+use super::{faulty, seal, set_address, set_indicators, sound, CHECKS, CHECKSUM_FORM};
 use crate::random::Random;
 use crate::receiver::{Run, Settings};
 use crate::row::Event;
@@ -33,9 +36,13 @@ pub fn any_row(random: &mut Random) -> Row {
 pub fn disturbed_runs(random: &mut Random, settings: &Settings) -> Vec<Vec<u8>> {
     let mut sections = Vec::new();
     for _ in 0..random.between(1, 5) {
-        sections.extend(any_run(random, settings));
+        sections.extend(if random.one_in(4) {
+            mixed_sisters(random, settings)
+        } else {
+            any_run(random, settings)
+        });
     }
-    disturb(random, &mut sections);
+    disturb(random, settings, &mut sections);
     sections
 }
 
@@ -63,24 +70,35 @@ fn any_buffer_length(random: &mut Random) -> usize {
     }
 }
 
-/// The sections of one unit, in order: a few more often than many, and seldom one too many.
+/// The sections of one unit, in order.
 pub fn any_run(random: &mut Random, settings: &Settings) -> Vec<Vec<u8>> {
+    let address = any_address(random, settings);
+    let last = any_last_section_number(random, settings);
+    let llc_snap = random.one_in(2);
+    run_of(random, address, last, llc_snap)
+}
+
+/// A few sections more often than many, and seldom one too many.
+fn any_last_section_number(random: &mut Random, settings: &Settings) -> u8 {
     let most = settings.limit.min(6) - 1;
     let last = match random.below(64) {
         0 => random.below(256),
         1 => settings.limit.min(255),
         _ => random.between(0, most),
     };
-    let address = any_address(random, settings);
-    let llc_snap = u8::from(random.one_in(2)) << 1;
+    last as u8
+}
+
+/// The sections of one unit for that address, in order: of many the first 41.
+fn run_of(random: &mut Random, address: [u8; 6], last: u8, llc_snap: bool) -> Vec<Vec<u8>> {
     let longest = if random.one_in(500) { 4_080 } else { 20 };
-    let numbers = 0..=last.min(40) as u8;
+    let numbers = 0..=last.min(40);
     numbers
         .map(|number| {
             let payload_length = random.between(0, longest);
             let payload = random.bytes(payload_length);
-            let mut section = sound(address, number, last as u8, &payload);
-            section[5] |= llc_snap;
+            let mut section = sound(address, number, last, &payload);
+            section[5] |= u8::from(llc_snap) << 1;
             if random.one_in(60) {
                 section[5] |= (random.between(1, 3) as u8) << 4; // payload scrambling
             }
@@ -88,6 +106,29 @@ pub fn any_run(random: &mut Random, settings: &Settings) -> Vec<Vec<u8>> {
             section
         })
         .collect()
+}
+
+/// The sections of a unit each for two or three sisters, mixed so that each one's keep their order.
+/// The units mostly have one last number and flag: then nothing but the address tells them apart.
+fn mixed_sisters(random: &mut Random, settings: &Settings) -> Vec<Vec<u8>> {
+    let last = any_last_section_number(random, settings);
+    let llc_snap = random.one_in(2);
+    let mut runs = vec![run_of(random, settings.address, last, llc_snap)];
+    for _ in 0..random.between(1, 2) {
+        let address = sister(random, settings);
+        let (last, llc_snap) = match random.below(4) {
+            0 => (any_last_section_number(random, settings), random.one_in(2)),
+            _ => (last, llc_snap),
+        };
+        runs.push(run_of(random, address, last, llc_snap));
+    }
+    let mut mixed = Vec::new();
+    while !runs.is_empty() {
+        let one = random.below(runs.len());
+        mixed.push(runs[one].remove(0));
+        runs.retain(|run| !run.is_empty());
+    }
+    mixed
 }
 
 /// Mostly ours; else other in one byte, which may be one that is not compared.
@@ -99,16 +140,28 @@ fn any_address(random: &mut Random, settings: &Settings) -> [u8; 6] {
     address
 }
 
-/// Some sections lost, doubled or swapped, some of another run, some with another number or flag,
-/// some in the checksum form.
-fn disturb(random: &mut Random, sections: &mut Vec<Vec<u8>>) {
+/// Other than ours in one byte that is not compared, most often the one next to those that are; ours
+/// where there is none.
+fn sister(random: &mut Random, settings: &Settings) -> [u8; 6] {
+    let mut address = settings.address;
+    let free = 6_usize.saturating_sub(settings.range);
+    if free > 0 {
+        let place = random.below(free);
+        address[random.pick(&[place, free - 1])] ^= 1 << random.below(8);
+    }
+    address
+}
+
+/// Some sections lost, doubled or swapped, some of another run, some with another number or flag or a
+/// sister's address, some in the checksum form.
+fn disturb(random: &mut Random, settings: &Settings, sections: &mut Vec<Vec<u8>>) {
     for _ in 0..random.below(4) {
         let count = sections.len();
         if count == 0 {
             return;
         }
         let (one, other) = (random.below(count), random.below(count));
-        match random.below(9) {
+        match random.below(10) {
             0 => drop(sections.remove(one)),
             1 => sections.insert(one, sections[one].clone()),
             2 => sections.swap(one, other),
@@ -118,6 +171,9 @@ fn disturb(random: &mut Random, sections: &mut Vec<Vec<u8>>) {
             6 => change_and_seal(&mut sections[one], |section| section[7] = random.byte()),
             7 => change_and_seal(&mut sections[one], |section| {
                 set_indicators(section, CHECKSUM_FORM);
+            }),
+            8 => change_and_seal(&mut sections[one], |section| {
+                set_address(section, sister(random, settings));
             }),
             _ => {
                 let fault = random.pick(&CHECKS);
@@ -179,28 +235,33 @@ pub fn bad_settings(random: &mut Random) -> Settings {
     }
 }
 
-/// An open state of any value: at the edges of a good one, beyond them, or good in its low bits.
-pub fn any_state(random: &mut Random) -> Run {
-    let wide = [256, 1 << 16, 1 << 32, usize::MAX - 255];
-    let mut number = |edges: &[usize]| match random.below(8) {
-        0 => random.pick(&wide) | random.pick(edges),
+/// An open state of any value that the library's sixteen bytes can have, two of them for each number
+/// and four for what is filled: at the edges of a good one, beyond them, or good in its low bits.
+pub fn any_state(random: &mut Random, settings: &Settings) -> Run {
+    let mut number = |edges: &[usize], wide: &[usize]| match random.below(8) {
+        0 => random.pick(wide) | random.pick(edges),
         1 | 2 => random.below(260),
         _ => random.pick(edges),
     };
-    let next = number(&[0, 1, 2, 3, 16, 17, 254, 255]);
-    let last = number(&[0, 1, 2, 3, 16, 17, 200, 254, 255]);
-    let edge = next.wrapping_mul(4_080);
-    let filled = number(&[0, 1, 50, edge, edge.wrapping_add(1), 65_535, 65_536]);
+    let two_bytes = [1 << 8, 1 << 15, 0xFF00];
+    let next = number(&[0, 1, 2, 3, 16, 17, 254, 255], &two_bytes);
+    let last = number(&[0, 1, 2, 3, 16, 17, 200, 254, 255], &two_bytes);
+    let edge = 4_080 * next;
+    let filled = number(
+        &[0, 1, 50, edge, edge + 1, 65_535, 65_536],
+        &[1 << 16, 1 << 24, 0xFFFF_0000],
+    );
     Run {
         next,
         last,
         filled,
         llc_snap: random.one_in(2),
+        address: any_kept_address(random, settings),
     }
 }
 
 /// An open state that is good: often with few sections to come, or with as much filled as can be.
-pub fn good_state(random: &mut Random) -> Run {
+pub fn good_state(random: &mut Random, settings: &Settings) -> Run {
     let few = random.between(1, 4);
     let many = random.between(1, 254);
     let next = random.pick(&[few, few, many]);
@@ -211,7 +272,26 @@ pub fn good_state(random: &mut Random) -> Run {
         last: 254.min(next + random.below(3)),
         filled: random.pick(&[less, less, most, most - less]),
         llc_snap: random.one_in(2),
+        address: any_own_address(random, settings),
     }
+}
+
+/// Ours or a sister's.
+pub fn any_own_address(random: &mut Random, settings: &Settings) -> [u8; 6] {
+    if random.one_in(2) {
+        sister(random, settings)
+    } else {
+        settings.address
+    }
+}
+
+/// The address of a state that may be bad: seldom other than ours in a byte that may be compared.
+fn any_kept_address(random: &mut Random, settings: &Settings) -> [u8; 6] {
+    let mut address = any_own_address(random, settings);
+    if random.one_in(8) {
+        address[random.below(6)] ^= 1 << random.below(8);
+    }
+    address
 }
 
 /// A section that goes on with the run, or nearly, with a payload of that length.
@@ -221,9 +301,11 @@ pub fn nearly_continuing(
     run: &Run,
     payload_length: usize,
 ) -> Vec<u8> {
-    let mut address = settings.address;
-    if random.one_in(8) {
-        address[random.below(6)] ^= 1;
+    let mut address = run.address;
+    match random.below(16) {
+        0 => address[random.below(6)] ^= 1 << random.below(8),
+        1 => address = any_own_address(random, settings),
+        _ => {}
     }
     let payload = random.repeated(payload_length);
     let mut section = sound(address, run.next as u8, run.last as u8, &payload);

@@ -29,6 +29,9 @@ pub fn rows() -> Vec<Row> {
     rows.extend(both_forms());
     rows.extend(states());
     rows.extend(first_sections());
+    rows.extend(two_sub_addresses());
+    rows.extend(sisters_of_every_range());
+    rows.extend(kept_addresses());
     rows
 }
 
@@ -135,7 +138,7 @@ fn both_forms() -> Vec<Row> {
 
 #[rustfmt::skip] // one row per line
 fn states() -> Vec<Row> {
-    let run = |next, last, filled| Some(Run { next, last, filled, llc_snap: false });
+    let run = |next, last, filled| Some(Run { next, last, filled, llc_snap: false, address: OURS });
     let too_long = vec![ours(0, 1, 6), ours(1, 1, 1)];
     vec![
         Row { state: run(1, 200, 0), ..row("A7: a state above the limit", vec![ours(1, 200, 1)], &[(21, 0)]) },
@@ -150,7 +153,7 @@ fn states() -> Vec<Row> {
 #[rustfmt::skip] // one row per line
 fn first_sections() -> Vec<Row> {
     let limit = |limit| Settings { limit, ..SETTINGS };
-    let run = Some(Run { next: 1, last: 2, filled: 9, llc_snap: false });
+    let run = Some(Run { next: 1, last: 2, filled: 9, llc_snap: false, address: OURS });
     vec![
         Row { settings: limit(255), ..row("A9: L = 255 with limit 255", vec![ours(0, 255, 0)], &[(21, 0)]) },
         Row { settings: limit(255), ..row("A9: L = 254 with limit 255", vec![ours(0, 254, 0)], &[(1, 0)]) },
@@ -158,4 +161,84 @@ fn first_sections() -> Vec<Row> {
         Row { settings: limit(0), state: run, ..row("10 before 11 and 12, and idle", vec![Section(vec![])], &[(10, 0)]) },
         Row { state: run, ..row("number 0 forgets an open run", vec![ours(0, 1, 3), ours(1, 1, 4)], &[(1, 0), (0, 7)]) },
     ]
+}
+
+/// A section of a run of two with the payload `knut`, for this address.
+fn of_two(address: [u8; 6], section_number: u8) -> Event {
+    Section(sound(address, section_number, 1, b"knut"))
+}
+
+/// The listing's settings with another range.
+fn with_range(range: usize) -> Settings {
+    Settings { range, ..SETTINGS }
+}
+
+/// Ours, other in that byte as printed: 0 is MAC_address_1.
+fn other_in(place: usize) -> [u8; 6] {
+    let mut address = OURS;
+    address[place] ^= 1;
+    address
+}
+
+/// Two and three sub-addresses of one estate, which share the one byte that is compared.
+#[rustfmt::skip] // one row per line
+fn two_sub_addresses() -> Vec<Row> {
+    let (a, b, c) = (OURS, other_in(4), other_in(0));
+    let of_range_1 = |source, sections: &[([u8; 6], u8)], answers: &[(u8, usize)]| Row {
+        settings: with_range(1),
+        ..row(source, sections.iter().map(|&(address, number)| of_two(address, number)).collect(), answers)
+    };
+    vec![
+        of_range_1("B10: A0, B0, A1, B1", &[(a, 0), (b, 0), (a, 1), (b, 1)], &[(1, 0), (1, 0), (22, 0), (22, 0)]),
+        of_range_1("B10: a sister's number 1 ends the run", &[(a, 0), (b, 1), (a, 1)], &[(1, 0), (22, 0), (22, 0)]),
+        of_range_1("B10: a sister's number 0 starts its own run", &[(a, 0), (b, 0), (b, 1)], &[(1, 0), (1, 0), (0, 8)]),
+        of_range_1("B10: one sister after the other", &[(b, 0), (b, 1), (a, 0), (a, 1)], &[(1, 0), (0, 8), (1, 0), (0, 8)]),
+        of_range_1("B10: A0, B0, C0, C1, A1, B1", &[(a, 0), (b, 0), (c, 0), (c, 1), (a, 1), (b, 1)], &[(1, 0), (1, 0), (1, 0), (0, 8), (22, 0), (22, 0)]),
+        of_range_1("B10: A0, B0, C1: a run of nobody", &[(a, 0), (b, 0), (c, 1), (b, 1)], &[(1, 0), (1, 0), (22, 0), (22, 0)]),
+    ]
+}
+
+/// For each range a sister that differs in the first byte that is not compared, and a stranger that
+/// differs in the last one that is. With range 6 there is no sister.
+#[rustfmt::skip] // one row per line
+fn sisters_of_every_range() -> Vec<Row> {
+    let mut rows = Vec::new();
+    for range in 1..=6 {
+        let mut of_range = |source, other, answers: &[(u8, usize)]| rows.push(Row {
+            settings: with_range(range),
+            ..row(source, vec![of_two(OURS, 0), of_two(other, 0), of_two(OURS, 1), of_two(other, 1)], answers)
+        });
+        if range < 6 {
+            of_range("B10: a sister in the first byte not compared", other_in(5 - range), &[(1, 0), (1, 0), (22, 0), (22, 0)]);
+        }
+        of_range("B10: a stranger in the last byte compared", other_in(6 - range), &[(1, 0), (2, 0), (0, 8), (2, 0)]);
+    }
+    rows
+}
+
+/// For each range states whose kept address differs from the own, where compared and where not.
+#[rustfmt::skip] // one row per line
+fn kept_addresses() -> Vec<Row> {
+    let run = |address| Some(Run { next: 1, last: 1, filled: 4, llc_snap: false, address });
+    let mut rows = Vec::new();
+    for range in 1..=6 {
+        let settings = with_range(range);
+        for place in 6 - range..6 {
+            let (state, stranger) = (run(other_in(place)), of_two(other_in(place), 1));
+            rows.push(Row { settings, state, ..row("B11: kept bytes differ where compared", vec![of_two(OURS, 1)], &[(11, 0)]) });
+            rows.push(Row { settings, state, ..row("B11: 11 before 2, and idle", vec![stranger, of_two(OURS, 1)], &[(11, 0), (22, 0)]) });
+            rows.push(Row { settings, state, ..row("B11: 11 before 12", vec![Section(vec![])], &[(11, 0)]) });
+        }
+        for place in 0..6 - range {
+            let (state, sister) = (run(other_in(place)), of_two(other_in(place), 1));
+            rows.push(Row { settings, state, ..row("B11: kept bytes differ where not compared", vec![of_two(OURS, 1)], &[(22, 0)]) });
+            rows.push(Row { settings, state, ..row("B11: the sister whose bytes are kept", vec![sister], &[(0, 8)]) });
+            rows.push(Row { settings, state, ..row("B11: ours starts anew", vec![of_two(OURS, 0), of_two(OURS, 1)], &[(1, 0), (0, 8)]) });
+        }
+        rows.push(Row { settings, state: run(OURS), ..row("B11: the own bytes are kept", vec![of_two(OURS, 1)], &[(0, 8)]) });
+    }
+    let bad = Settings { range: 7, ..SETTINGS };
+    rows.push(Row { settings: bad, state: run(other_in(5)), ..row("B11: 10 before 11", vec![of_two(OURS, 1)], &[(10, 0)]) });
+    rows.push(Row { state: run(other_in(5)), ..row("A10: a gap notice after kept bytes that differ", vec![Gap, of_two(OURS, 1)], &[(22, 0)]) });
+    rows
 }

@@ -1,5 +1,5 @@
 -- The code computes the definition.
-use Rattle.notification_rules.specs.Range.{addressAt}
+use Rattle.rules.specs.Address.{addressAt}
 use borrow.Author.Needs.{needs}
 use Rattle.notification.proofs.range.address_at.Statement.{statement}
 use Rattle.notification.proofs.range.address_at.Tie as tie
