@@ -29,9 +29,9 @@ flagOf llcSnap = not (eqb llcSnap 0)
 unfoldable pub flagNumber : Bool → ℕ
 flagNumber llcSnap = pick llcSnap 1 0
 
--- ---- a state is sixteen bytes: 0 is the run, 1 the LLC_SNAP_flag, 2 and 3 the next number, 4 and 5 the last number, 6 to 9 the filled
--- length, and 10 to 15 the address of the run's number 0
--- what sixteen bytes mean: run 0 is idle, whatever the others are, and any other value an open run
+-- ---- states
+-- what sixteen bytes mean: 0 is the run, 1 the LLC_SNAP_flag, 2 and 3 the next number, 4 and 5 the last number, 6 to 9 the filled length,
+-- and 10 to 15 the address of the run's number 0. Run 0 is idle, whatever the others are, and any other value an open run
 unfoldable pub stateOf : List ℕ → State
 stateOf x =
     pick (eqb (byteAt x 0) 0) Idle

@@ -9,7 +9,7 @@ use Rattle.rules.specs.declared.State.{State}
 use Rattle.rules.specs.Send.{defaultPiece, sendingLength, sendingNumber, SendOutcome, sentOf}
 use Rattle.rules.specs.Step.{gapOf, lengthOf, numberOf, Outcome, stepOf}
 use Rattle.rules.proofs.After.{receiver-gives, receiver-names, sender-gives}
-use Rattle.rules.proofs.Made.{made-is-good}
+use Rattle.rules.proofs.Made.{made-good}
 use Rattle.rules.proofs.Meaning.{check-means, receiver-means, sender-means}
 use Rattle.caller_numbers.specs.Numbers.{stateBytes, stateOf}
 use Rattle.caller_numbers.proofs.Meaning.{handed-on}
@@ -19,7 +19,7 @@ use Rattle.demands.specs.Demand1.{Demand1, Sends, Steps}
 -- a step and a sending are those of the rules
 steps : (c : Settings) (σ : State) (s b : List ℕ) → let o : Outcome = stepOf c σ s b in
     Steps c σ s b (numberOf (o .step .answer)) (lengthOf (o .step .answer)) (o .step .state) (o .buffer)
-steps c σ s b = record { number = receiver-means c σ s b; after = receiver-gives c σ s b; good = made-is-good c σ s b }
+steps c σ s b = record { number = receiver-means c σ s b; after = receiver-gives c σ s b; good = made-good c σ s b }
 
 sends : (c : Settings) (llcSnap : Bool) (size : ℕ) (u out : List ℕ) → let o : SendOutcome = sentOf c llcSnap size u out in
     Sends c size u out (sendingNumber (o .sending)) (sendingLength (o .sending)) (o .output)
@@ -40,7 +40,7 @@ demand-1 =
           let τ : State = stepOf (g .settings) (stateOf (g .state)) (g .section) (g .buffer) .step .state in (
             τ,
             p .state,
-            ap stateOf (p .state) ∙ handed-on (g .settings) τ (made-is-good (g .settings) (stateOf (g .state)) (g .section) (g .buffer)),
+            ap stateOf (p .state) ∙ handed-on (g .settings) τ (made-good (g .settings) (stateOf (g .state)) (g .section) (g .buffer)),
             rw (p .answer, p .unit, p .buffer) (steps (g .settings) (stateOf (g .state)) (g .section) (g .buffer)),
           );
       fossknut-gap = λ κs a z e p. p;

@@ -18,7 +18,7 @@ use Rattle.rules.specs.declared.Answer.the-variants.{Delivered, PassedBy, Refus
 use Rattle.rules.proofs.After.{receiver-names}
 use Rattle.rules.proofs.Demand3.{demand-3 as demand-3-holds}
 use Rattle.rules.proofs.Handed.{handedRow}
-use Rattle.rules.proofs.Made.{made-is-good}
+use Rattle.rules.proofs.Made.{made-good}
 use Rattle.caller_numbers.proofs.Meaning.{handed-on}
 use Rattle.demands.specs.Abroad.{receiveGiven}
 use Rattle.demands.specs.Demand3.{a-gap, a-gap-abroad, a-section, a-section-abroad, Demand3, ended, Given, GivenRow, handedAbroad, more}
@@ -28,7 +28,7 @@ unfolding next gapOf GoodState
 held c h e k d (a-section κs a z x p q r t) = rw (t .step, t .buffer, p, q, r)
 held c h e k d (a-gap κs a z x q t) = rw t
 held c h e k d (a-section-abroad κs a z x p q r t) =
-    rw (t .state, t .buffer, p, q, r, handed-on c _ (made-is-good c (h .state) (receiveGiven κs a .section) (h .buffer)))
+    rw (t .state, t .buffer, p, q, r, handed-on c _ (made-good c (h .state) (receiveGiven κs a .section) (h .buffer)))
 held c h e k d (a-gap-abroad κs a z x q t) = rw (t, handed-on c Idle tt)
 
 -- ---- an answer's number and length tell what is handed over, since no refusal has the number 0

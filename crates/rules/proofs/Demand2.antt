@@ -19,7 +19,7 @@ use Rattle.rules.specs.Sound.{table3, Values}
 use Rattle.rules.specs.Row.{after, Event, fresh, Held, next, section}
 use Rattle.rules.proofs.Compared.{same-self}
 use Rattle.rules.proofs.Good.{good-is}
-use Rattle.rules.proofs.Made.{made-good}
+use Rattle.rules.proofs.Made.{made-tested}
 use Rattle.rules.proofs.Written.{sent, sent-is, sent-limits}
 use Rattle.rules.proofs.Tested.{elsewhere, joined, InRun, Receivable}
 use Rattle.rules.specs.Section.{header, sealed, sectionLength, sectionOf}
@@ -135,7 +135,7 @@ module _ (c : Settings) (llcSnap : Bool) (n : ℕ) (u out : List ℕ) (a : Accep
     holds-to (suc k) h =
         let i : Holds c b (row k) (held k) = holds-to k (omega arith) in
         rw (map-more section (to k) (at k), after-more c (fresh b) (row k) (section (at k)))
-        (due-holds c b (i .size) (made-good c (held k .state) (at k) (held k .buffer)) (due-at k (omega arith) i))
+        (due-holds c b (i .size) (made-tested c (held k .state) (at k) (held k .buffer)) (due-at k (omega arith) i))
 
     -- the outcome at section k
     pub record Outcomes (k : ℕ) (o : Outcome) : Type 0 where

@@ -106,8 +106,9 @@ module _ (c : Settings) (σ : State) (s b : List ℕ) where
       (λ _. idle))
       (λ _. idle)
 
-pub made-is-good : MadeGood
-made-is-good = made
+pub made-good : MadeGood
+made-good = made
 
-pub made-good : (c : Settings) (σ : State) (s b : List ℕ) → goodState c (stepOf c σ s b .step .state) ≡ true
-made-good c σ s b = state-tells c _ .1 (made c σ s b)
+-- the same by the receiver's own test
+pub made-tested : (c : Settings) (σ : State) (s b : List ℕ) → goodState c (stepOf c σ s b .step .state) ≡ true
+made-tested c σ s b = state-tells c _ .1 (made c σ s b)

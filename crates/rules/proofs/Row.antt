@@ -12,7 +12,7 @@ use Rattle.rules.specs.Step.{gapOf, goodSettings, goodState}
 use Rattle.rules.specs.Row.{Event, section, gap, Held, fresh, next, after, nothing, datagram, handedBy, handedOver}
 use Rattle.rules.proofs.Tested.{elsewhere, strike, Ready, RowTheorem}
 use Rattle.rules.proofs.Runs.{no-gap}
-use Rattle.rules.proofs.Made.{made-good}
+use Rattle.rules.proofs.Made.{made-tested}
 use Rattle.rules.proofs.Due.{no-datagram, passes, Holds, started, due-holds, due-hands, due}
 
 -- ---- the struck row
@@ -54,7 +54,7 @@ module _ (c : Settings) (b : List ℕ) (good : goodSettings c ≡ true) where
   kept-holds : (past : List Event) (h : Held) (e : Event) → Holds c b past h → elsewhere c e ≡ false
       → Holds c b (past ++ (e ∷ [])) (next c h e)
   unfolding next gapOf goodState
-  kept-holds past h (section s) i kept = due-holds c b (i .size) (made-good c (h .state) s (h .buffer)) (due c b past h i s good kept)
+  kept-holds past h (section s) i kept = due-holds c b (i .size) (made-tested c (h .state) s (h .buffer)) (due c b past h i s good kept)
   kept-holds past h gap i kept = record { size = i .size; good = refl; track = λ κ xs e some partial. no-gap past (e .there) some }
 
   kept-hands : (past : List Event) (h : Held) (e : Event) → Holds c b past h → elsewhere c e ≡ false

@@ -31,7 +31,7 @@ pub record Receivable (c : Settings) (s : List ℕ) : Type 0 where
   pub clear : payloadScramblingControl s ≡ 0
   pub within : lastSectionNumber s + 1 ≤ c .limit
 
--- section i of a run that agrees on κ: its last number and LLC_SNAP_flag
+-- section i of a run that agrees on κ: its address, last number and LLC_SNAP_flag
 pub record InRun (c : Settings) (κ : Key) (i : ℕ) (s : List ℕ) : Type 0 where
   pub receivable : Receivable c s
   pub numbered : sectionNumber s ≡ i
