@@ -254,10 +254,10 @@ fn gap_notices_in_any_state() {
     }
 }
 
-#[test]
-fn every_bit_of_the_address_at_every_range() {
-    let mut memory = Memory::new();
-    let mut random = Random::new(6);
+/// Each bit of the own address at each range: `with` is given the settings, the address that differs
+/// in this bit, and whether it is compared.
+fn every_bit_at_every_range(seed: u64, mut with: impl FnMut(Settings, [u8; 6], bool)) {
+    let mut random = Random::new(seed);
     for range in 1..=6 {
         let settings = Settings {
             range,
@@ -266,12 +266,19 @@ fn every_bit_of_the_address_at_every_range() {
         for bit in 0..48 {
             let mut address = settings.address;
             address[bit / 8] ^= 1 << (bit % 8);
-            let mut pair = memory.pair(Receiver::new(settings, vec![0; 4]));
-            let (number, _) = pair.receive(&sound(address, 0, 0, b"knut"));
-            let compared = bit / 8 >= 6 - range;
-            assert_eq!(number, if compared { 2 } else { 0 }, "{bit} of {range}");
+            with(settings, address, bit / 8 >= 6 - range);
         }
     }
+}
+
+#[test]
+fn every_bit_of_the_address_at_every_range() {
+    let mut memory = Memory::new();
+    every_bit_at_every_range(6, |settings, address, compared| {
+        let mut pair = memory.pair(Receiver::new(settings, vec![0; 4]));
+        let (number, _) = pair.receive(&sound(address, 0, 0, b"knut"));
+        assert_eq!(number, if compared { 2 } else { 0 }, "{settings:?}");
+    });
 }
 
 /// 11 where the kept address differs in a bit that is compared, else the section decides: one for the
@@ -279,34 +286,23 @@ fn every_bit_of_the_address_at_every_range() {
 #[test]
 fn every_bit_of_the_kept_address_at_every_range() {
     let mut memory = Memory::new();
-    let mut random = Random::new(8);
-    for range in 1..=6 {
-        let settings = Settings {
-            range,
-            ..good_settings(&mut random)
+    every_bit_at_every_range(8, |settings, address, compared| {
+        let run = Run {
+            next: 1,
+            last: 1,
+            filled: 0,
+            llc_snap: false,
+            address,
         };
-        for bit in 0..48 {
-            let mut address = settings.address;
-            address[bit / 8] ^= 1 << (bit % 8);
-            let compared = bit / 8 >= 6 - range;
-            for (of, number) in [(settings.address, 22), (address, 0)] {
-                let number = if compared { 11 } else { number };
-                let run = Run {
-                    next: 1,
-                    last: 1,
-                    filled: 0,
-                    llc_snap: false,
-                    address,
-                };
-                let mut pair = memory.pair(Receiver {
-                    state: Some(run),
-                    ..Receiver::new(settings, vec![0; 4])
-                });
-                let (answer, _) = pair.receive(&sound(of, 1, 1, b"knut"));
-                assert_eq!(answer, number, "{bit} of {range}");
-            }
+        for (of, number) in [(settings.address, 22), (address, 0)] {
+            let mut pair = memory.pair(Receiver {
+                state: Some(run),
+                ..Receiver::new(settings, vec![0; 4])
+            });
+            let (answer, _) = pair.receive(&sound(of, 1, 1, b"knut"));
+            assert_eq!(answer, if compared { 11 } else { number }, "{settings:?}");
         }
-    }
+    });
 }
 
 /// A state whose neighbours may not be touched, on either side.
