@@ -14,6 +14,7 @@ use Rattle.stream.specs.declared.Failure.the-variants.{Nothing, Reading, Writin
 use Rattle.rules.specs.Demand2.{Sections}
 use Rattle.rules.specs.Recording.{listingSettings}
 use Rattle.rules.specs.Send.{SendOutcome, sendingNumber, sendingLength, sentOf}
+use Rattle.rules.specs.UnitEnd.{NotOneDatagram}
 
 -- what a sending says: its number, and its bytes at the start of its output
 pub record Says (o : SendOutcome) (number : ℕ) (text : List ℕ) : Type 0 where
@@ -34,11 +35,14 @@ abbrev pub failureOf : Input → ℕ → Bool → Failure
 failureOf Unreadable number t = Reading
 failureOf (Bytes n) number t = pick (eqb number 0) (pick t Nothing Writing) Refused
 
--- ---- what request 7 leaves as it was
--- what is told and sent of a unit: 65,280 bytes still go out in 16 sections, given room for them and 16 bytes beside each piece; 65,281 get 52
+-- ---- what requests 3 and 7 leave it
+-- what is told and sent of a unit
 pub record By4080 (u : List ℕ) (room number : ℕ) (text : List ℕ) : Type 0 where
-  pub over : (number ≡ 52) ↔ (65280 < length u)
-  pub within : length u + 256 ≤ room → (number ≡ 0) ↔ (length u ≤ 65280)
+  -- without the flag what is sent is an IP datagram: anything else, an empty input too, gets 54
+  pub other : (number ≡ 54) ↔ NotOneDatagram u
+  -- where 54 does not apply, 65,280 bytes still go out in 16 sections, given room for them and 16 bytes beside each piece; 65,281 get 52
+  pub over : ¬ NotOneDatagram u → (number ≡ 52) ↔ (65280 < length u)
+  pub within : ¬ NotOneDatagram u → length u + 256 ≤ room → (number ≡ 0) ↔ (length u ≤ 65280)
   pub sections : number ≡ 0 → Sections listingSettings false 4080 u text
 
 -- a theorem, shown in proofs/Still.antt

@@ -1,5 +1,5 @@
-// The archive sender of document 01: all of standard input is one unit, whose sections go to standard output; where it is refused,
-// only the refusal's number goes to the error output.
+// The archive sender of document 01: all of standard input is one unit, an IP datagram, whose sections go to standard output; where it is
+// refused, only the refusal's number goes to the error output.
 use libc::STDERR_FILENO;
 use libc::STDOUT_FILENO;
 use rules::Sending;

@@ -10,9 +10,9 @@ use Rattle.rules.specs.declared.Settings.{Settings}
 use Rattle.rules.specs.declared.Answer.{Answer}
 use Rattle.rules.specs.After.{NamedByNumber}
 use Rattle.rules.specs.declared.State.the-variants.{Idle}
-use Rattle.rules.specs.Demand3.{HandedRight, OfBytes}
+use Rattle.rules.specs.Demand3.{HandedRight, OfBytes, OwnLength}
 use Rattle.rules.specs.Meaning.{GoodState}
-use Rattle.rules.specs.Row.{after, Event, fresh, Handed, handedBy, handedOver, Held, next}
+use Rattle.rules.specs.Row.{after, Event, fresh, Handed, handedBy, handedOver, Held, next, section}
 use Rattle.rules.specs.Step.{gapOf, lengthOf, numberOf}
 use Rattle.rules.specs.declared.Answer.the-variants.{Delivered, PassedBy, Refused, Stored}
 use Rattle.rules.proofs.After.{receiver-names}
@@ -69,6 +69,9 @@ each : (c : Settings) (b : List ℕ) (r : List Event) (ds : List Handed) (h : He
 each c b r ds h g e k d f given =
     rw (handed c h e k d f, row c (fresh b) r ds h g) (demand-3-holds c b .each r e given)
 
+own : (c : Settings) (h : Held) (s : List ℕ) (k : Held) (d : Handed) → Given c h (section s) k d → OwnLength s d
+own c h s k d f = rw (handed c h (section s) k d f) (demand-3-holds c [] .own h s)
+
 pub demand-3 : Demand3
 demand-3 =
     record {
@@ -76,4 +79,5 @@ demand-3 =
       strikes = λ c. demand-3-holds c [] .strikes;
       only = λ c b. demand-3-holds c b .only;
       once = λ c b. demand-3-holds c b .once;
+      own = own;
     }

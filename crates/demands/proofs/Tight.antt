@@ -36,6 +36,7 @@ tight =
       check = λ κs a z y e d p q. p ∙ sym q;
       good-settings = λ κs a z y e d p q. p ∙ sym q;
       same-address = λ κs a z y e d p q. p ∙ sym q;
+      unit-end = λ κs a z y e d p q. p ∙ sym q;
       receive = λ κs a z y e d p q. (p .step ∙ sym (q .step), p .buffer ∙ sym (q .buffer));
       gap = λ κs a z y e d p q. p ∙ sym q;
       send = λ κs a z y e d p q. (p .sending ∙ sym (q .sending), p .output ∙ sym (q .output));

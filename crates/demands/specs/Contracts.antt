@@ -6,6 +6,7 @@ use Rattle.section_fields.proofs as section_fields
 use Rattle.section_header.proofs as section_header
 use Rattle.section_check.proofs as section_check
 use Rattle.settings.proofs as settings
+use Rattle.unit_end.proofs as unit_end
 use Rattle.receiver.proofs as receiver
 use Rattle.sender.proofs as sender
 use Rattle.recording.proofs as recording
@@ -105,6 +106,9 @@ good-settings = function settings.good_settings.Kinds.ps settings.good_settings.
 
 abbrev pub same-address : Function
 same-address = function settings.same_address.Kinds.ps settings.same_address.Kinds.r settings.same_address.Reads.Learnt
+
+abbrev pub unit-end : Function
+unit-end = function unit_end.unit_end.Kinds.ps unit_end.unit_end.Kinds.r unit_end.unit_end.Reads.Learnt
 
 abbrev pub receive : Function
 receive = function receiver.receive.Kinds.ps receiver.receive.Kinds.r receiver.receive.Reads.Learnt

@@ -10,7 +10,7 @@ use denote.Ref.{now}
 use Rattle.wire.specs.Choice.{pick}
 use Rattle.rules.specs.declared.Settings.{Settings}
 use Rattle.rules.specs.declared.State.{State}
-use Rattle.rules.specs.Demand3.{CanBeStruck, HandedRight, OfBytes, Once, OnlyOne}
+use Rattle.rules.specs.Demand3.{CanBeStruck, HandedRight, OfBytes, Once, OnlyOne, OwnLength}
 use Rattle.rules.specs.Row.{datagram, Event, fresh, gap, Handed, handedBy, Held, nothing, section}
 use Rattle.caller_numbers.specs.Numbers.{stateOf}
 use Rattle.demands.specs.Abroad.{gapGave, gapGiven, receiveGave, receiveGiven}
@@ -68,3 +68,5 @@ pub record Demand3 : Type 0 where
   pub strikes : (c : Settings) → CanBeStruck c
   pub only : (c : Settings) (b : List ℕ) → OnlyOne c b
   pub once : (c : Settings) (b : List ℕ) → Once c b
+  -- whatever the code holds
+  pub own : (c : Settings) (h : Held) (s : List ℕ) (k : Held) (d : Handed) → Given c h (section s) k d → OwnLength s d

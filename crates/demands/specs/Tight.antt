@@ -57,6 +57,8 @@ pub record Tight : Type 0 where
   -- settings
   pub good-settings : OneResult contracts.good-settings
   pub same-address : OneResult contracts.same-address
+  -- unit_end
+  pub unit-end : OneResult contracts.unit-end
   -- receiver: the answer, the state after, and what is left in the buffer
   pub receive : AnyTwo contracts.receive
       (λ κs z y (_, (_, (_, (e, _)))) (_, (_, (_, (d, _)))). (z ≡ y) × (now e ≡ now d))

@@ -1,6 +1,7 @@
-// One step of the receiver, and the gap notice: document 01, 'The receiver'; document 02, request 5. The letters are the paper's: f is the
-// filled length.
+// One step of the receiver, and the gap notice: document 01, 'The receiver'; document 02, requests 3 and 5. The letters are the paper's: f
+// is the filled length.
 use rules::Answer;
+use rules::End;
 use rules::Key;
 use rules::Settings;
 use rules::State;
@@ -12,6 +13,7 @@ use section_fields::payload;
 use section_fields::payload_scrambling_control;
 use section_fields::section_number;
 use settings::same_address;
+use unit_end::unit_end;
 use wire::both;
 use wire::first;
 ghost use mathlib.Core.Path.{_≡_};
@@ -112,26 +114,33 @@ fn refuse(number: u8) -> Step
     }
 }
 
-// The unit is delivered with the length that is filled, whatever the buffer has.
-fn finish(filled: usize) -> Step
-    ensures { λ r. ⌜ ((b : List ℕ) → Does (finish filled b) r b) ⌝ }
+// Finishes the unit with the payload of s, which fits. Where the unit ends is read from what is stored and from the payload before anything is
+// written, so that a refusal leaves the buffer as it was.
+fn finish(f: usize, s: &[u8], bytes: &[u8], buffer: &mut [u8]) -> Step
+    requires { ⌜ now bytes ≡ payload (now s) ⌝ }
+    requires { ⌜ f + length (now bytes) ≤ room (now buffer) ⌝ }
+    ensures { λ r. ⌜ Does (finish f (now (s .entry)) (now (buffer .entry))) r (now (buffer .exit)) ⌝ }
 {
+    let End::At(n) = unit_end(llc_snap_flag(s), &buffer[..f], bytes) else {
+        return refuse(25);
+    };
+    wire::put(bytes, f, buffer);
     Step {
-        answer: Answer::Delivered(filled),
+        answer: Answer::Delivered(n),
         state: State::Idle,
     }
 }
 
-// Stores the payload of s, which fits. After the last section the unit is finished, else the run is open.
+// The last section finishes the unit; the payload of any other, which fits, is stored, and the run is open.
 fn keep(f: usize, s: &[u8], bytes: &[u8], buffer: &mut [u8]) -> Step
     requires { ⌜ now bytes ≡ payload (now s) ⌝ }
     requires { ⌜ f + length (now bytes) ≤ room (now buffer) ⌝ }
     ensures { λ r. ⌜ Does (keep f (now (s .entry)) (now (buffer .entry))) r (now (buffer .exit)) ⌝ }
 {
-    let filled = wire::put(bytes, f, buffer);
     if section_number(s) == last_section_number(s) {
-        return finish(filled);
+        return finish(f, s, bytes, buffer);
     }
+    let filled = wire::put(bytes, f, buffer);
     Step {
         answer: Answer::Stored,
         state: State::Open {

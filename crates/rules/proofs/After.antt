@@ -1,5 +1,5 @@
 -- Each outcome that the tables reach has what goes with its number: a refusal, what is passed by, and what is kept.
-use Prim.Native.Nat.{ℕ, _+_, _-_}
+use Prim.Native.Nat.{ℕ, _+_, _≤_}
 use native.Mathlib.Decide.{ℕ-discrete}
 use native.Mathlib.Omega.{arith}
 use mathlib.Core.Path.{_≡_, refl, ap, _∙_}
@@ -8,25 +8,30 @@ use mathlib.Core.List.{List, append-assoc, flatten}
 use mathlib.Core.Bool.{Bool, true, false}
 use lib.ListN.{length}
 use lib.Seq.{take-all, take-length}
-use lib.Dec.{eqb, leb}
-use borrow.Author.Tests.{eq-eqb, eqb-false, eqb-true, ne-eqb}
-use Rattle.wire.specs.Bytes.{byteAt}
+use lib.Dec.{eqb}
+use borrow.Author.Tests.{eq-eqb, eqb-false, eqb-true, leb-true, ne-eqb}
+use Rattle.wire.specs.Bytes.{bit, byteAt}
 use Rattle.wire.specs.Choice.{both, firstOf, Line, pick, without}
 use Rattle.wire.proofs.Choice.{firstOf-without}
 use Rattle.rules.specs.declared.Answer.{Answer}
 use Rattle.rules.specs.declared.Answer.the-variants.{Delivered, PassedBy, Refused, Stored}
+use Rattle.rules.specs.declared.End.{End}
+use Rattle.rules.specs.declared.End.the-variants.{At, NoEnd}
 use Rattle.rules.specs.declared.Settings.{Settings}
 use Rattle.rules.specs.declared.State.{State}
 use Rattle.rules.specs.declared.State.the-variants.{Idle, Open}
-use Rattle.rules.specs.After.{NamedByNumber, ReceiverAfter, ReceiverGives, ReceiverNames, runAfter, SenderAfter, SenderGives, stored, storedAt}
+use Rattle.rules.specs.After.{NamedByNumber, ReceiverAfter, ReceiverGives, ReceiverNames, runAfter, SenderAfter, SenderGives, storedAt}
 use Rattle.rules.specs.Check.{checkLines, sharedLines, formLines, orderLines}
-use Rattle.rules.specs.Meaning.{filledBefore}
+use Rattle.rules.specs.Meaning.{filledBefore, joinedUp, stored}
 use Rattle.rules.specs.Section.{address, lastSectionNumber, llcSnapFlag, payload, sectionNumber}
 use Rattle.rules.specs.Send.{sendingLength, sendingNumber, sendLines, SendOutcome, sections, sentOf, written}
-use Rattle.rules.specs.Step.{ownLines, continues, finish, From, keep, keyOf, laid, lay, lengthOf, Nowhere, numberOf, onward, ours, Outcome, outcome, fillFrom, refuse, refuseFirst, room, setupLines, stepOf}
-use Rattle.rules.proofs.Meaning.{filled-open, filled-zero}
+use Rattle.rules.specs.Step.{ownLines, continues, finish, From, joinedWith, keep, keyOf, laid, lay, lengthOf, Nowhere, numberOf, onward, ours, Outcome, outcome, fillFrom, refuse, refuseFirst, room, setupLines, stepOf, upTo}
+use Rattle.rules.specs.UnitEnd.{unitEnd}
+use Rattle.rules.proofs.Due.{pick-case}
+use Rattle.rules.proofs.Meaning.{filled-open, filled-zero, stored-is}
 use Rattle.rules.proofs.Sections.{sections-sent}
 use Rattle.rules.proofs.Send.{accepted, sent-is, unsent-is}
+use Rattle.rules.proofs.UnitEnd.{unit-ends}
 
 -- ---- the outcomes of a step
 -- a number that is none of 2, 1 and 0
@@ -37,7 +42,8 @@ pub record Refusing (n : ℕ) : Type 0 where
 
 -- what holds of every refusal, of what is passed by and of what is kept holds of the step
 module _ (σ : State) (s b : List ℕ) (P : Outcome → Type 0) (refused : (n : ℕ) → Refusing n → P (refuse n b))
-    (passed : P (outcome PassedBy σ b)) (kept : (f : ℕ) → filledBefore σ (byteAt s 6) ≡ f → P (keep f s b)) where
+    (passed : P (outcome PassedBy σ b))
+    (kept : (f : ℕ) → filledBefore σ (byteAt s 6) ≡ f → f + length (payload s) ≤ room b → P (keep f s b)) where
   -- the lines of a part have none of these numbers
   by-lines : (lines : List Line) (o : Outcome) → without 0 lines ≡ true → without 1 lines ≡ true → without 2 lines ≡ true
       → P o → P (refuseFirst lines b o)
@@ -60,12 +66,10 @@ module _ (σ : State) (s b : List ℕ) (P : Outcome → Type 0) (refused : (n : 
   nowhere = refused 22 (record { two = λ z. omega arith; one = λ z. omega arith; zero = λ z. omega arith })
 
   by-room : (f : ℕ) → filledBefore σ (byteAt s 6) ≡ f → P (lay (From f) s b)
-  unfolding lay pick
-  by-room f e = go (leb (f + length (payload s)) (room b))
-    where
-      go : (t : Bool) → P (pick t (keep f s b) (refuse 23 b))
-      go true = kept f e
-      go false = refused 23 (record { two = λ z. omega arith; one = λ z. omega arith; zero = λ z. omega arith })
+  unfolding lay
+  by-room f e =
+      pick-case P _ _ _ (λ t. kept f e (leb-true _ _ t))
+      (λ _. refused 23 (record { two = λ z. omega arith; one = λ z. omega arith; zero = λ z. omega arith }))
 
   by-run : (τ : State) → σ ≡ τ → byteAt s 6 ≢ 0 → P (lay (onward τ s) s b)
   unfolding onward pick
@@ -89,7 +93,7 @@ module _ (σ : State) (s b : List ℕ) (P : Outcome → Type 0) (refused : (n : 
   by-address true o a = a
   by-address false o a = passed
 
-  by-step : (c : Settings) → P (stepOf c σ s b)
+  pub by-step : (c : Settings) → P (stepOf c σ s b)
   unfolding setupLines stepOf without both checkLines sharedLines formLines orderLines ownLines
   by-step c =
       by-lines (setupLines c σ) _ refl refl refl
@@ -119,29 +123,26 @@ passed-after σ s b =
       delivered = λ e. absurd (omega arith);
     }
 
-stored-is : (s : List ℕ) → payload s ≡ stored s
-unfolding payload
-stored-is s = let e : length s - 4 - 12 ≡ length s - 16 = omega arith in rw e
-
 laid-is : (f : ℕ) (s b : List ℕ) → laid f s b ≡ storedAt f (stored s) b
 unfolding laid
 laid-is f s b = rw (stored-is s, take-length (stored s), append-assoc)
 
 kept-after : (σ : State) (s b : List ℕ) (f : ℕ) → filledBefore σ (byteAt s 6) ≡ f → After σ s b (keep f s b)
-unfolding keep finish keyOf address sectionNumber lastSectionNumber llcSnapFlag pick numberOf lengthOf
-kept-after σ s b f e = rw (laid-is f s b, stored-is s, ← e) (go (eqb (byteAt s 6) (byteAt s 7)))
+unfolding keep finish joinedWith keyOf address sectionNumber lastSectionNumber llcSnapFlag pick upTo numberOf lengthOf
+kept-after σ s b f e = rw (laid-is f s b, stored-is s, ← e) (go (eqb (byteAt s 6) (byteAt s 7)) (unitEnd (eqb (bit 1 (byteAt s 5)) 1) (joinedUp σ s b)) refl)
   where
-    go : (t : Bool) → let g : ℕ = filledBefore σ (byteAt s 6) in
-        After σ s b (pick t (outcome (Delivered (g + length (stored s))) Idle (storedAt g (stored s) b))
-        (outcome Stored (runAfter s (g + length (stored s))) (storedAt g (stored s) b)))
-    go true =
+    go : (t : Bool) (end : End) → unitEnd (eqb (bit 1 (byteAt s 5)) 1) (joinedUp σ s b) ≡ end
+        → let g : ℕ = filledBefore σ (byteAt s 6) in
+        After σ s b (pick t (upTo end b (storedAt g (stored s) b)) (outcome Stored (runAfter s (g + length (stored s))) (storedAt g (stored s) b)))
+    go true (At n) q =
         record {
           refused = λ _ _ e. absurd (e refl);
           passed = λ e. absurd (omega arith);
           kept = λ e. absurd (omega arith);
-          delivered = λ _. (refl, refl, refl);
+          delivered = λ _. (unit-ends (eqb (bit 1 (byteAt s 5)) 1) (joinedUp σ s b) n .0 q, refl, refl);
         }
-    go false =
+    go true NoEnd q = refused-after σ s b 25 (record { two = λ z. omega arith; one = λ z. omega arith; zero = λ z. omega arith })
+    go false end q =
         record {
           refused = λ _ e _. absurd (e refl);
           passed = λ e. absurd (omega arith);
@@ -150,7 +151,7 @@ kept-after σ s b f e = rw (laid-is f s b, stored-is s, ← e) (go (eqb (byteAt 
         }
 
 pub receiver-gives : ReceiverGives
-receiver-gives c σ s b = by-step σ s b (After σ s b) (refused-after σ s b) (passed-after σ s b) (kept-after σ s b) c
+receiver-gives c σ s b = by-step σ s b (After σ s b) (refused-after σ s b) (passed-after σ s b) (λ f e _. kept-after σ s b f e) c
 
 -- ---- the names
 abbrev Named : Outcome → Type 0
@@ -167,29 +168,31 @@ refused-named b n h =
     }
 
 -- any answer but a refusal has its name by its number
-own-named : (a : Answer) → ((n : ℕ) → a ≡ Refused n → ⊥) → NamedByNumber a
+delivered-named : (n : ℕ) → NamedByNumber (Delivered n)
 unfolding numberOf lengthOf
-own-named (Delivered n) h =
+delivered-named n =
     record { refused = λ _ _ e. absurd (e refl); passed = λ e. absurd (omega arith); kept = λ e. absurd (omega arith); delivered = λ _. refl }
-own-named Stored h =
-    record { refused = λ _ e _. absurd (e refl); passed = λ e. absurd (omega arith); kept = λ _. refl; delivered = λ e. absurd (omega arith) }
-own-named PassedBy h =
-    record { refused = λ e _ _. absurd (e refl); passed = λ _. refl; kept = λ e. absurd (omega arith); delivered = λ e. absurd (omega arith) }
-own-named (Refused n) h = absurd (h n refl)
 
-no-refusal : (f : ℕ) (s b : List ℕ) (n : ℕ) → keep f s b .step .answer ≡ Refused n → ⊥
-unfolding keep finish pick
-no-refusal f s b n = go (eqb (sectionNumber s) (lastSectionNumber s))
+stored-named : NamedByNumber Stored
+unfolding numberOf lengthOf
+stored-named =
+    record { refused = λ _ e _. absurd (e refl); passed = λ e. absurd (omega arith); kept = λ _. refl; delivered = λ e. absurd (omega arith) }
+
+passed-named : NamedByNumber PassedBy
+unfolding numberOf lengthOf
+passed-named =
+    record { refused = λ e _ _. absurd (e refl); passed = λ _. refl; kept = λ e. absurd (omega arith); delivered = λ e. absurd (omega arith) }
+
+kept-named : (f : ℕ) (s b : List ℕ) → Named (keep f s b)
+unfolding keep finish upTo
+kept-named f s b = pick-case Named _ _ _ (λ _. go (unitEnd (llcSnapFlag s) (joinedWith f s b))) (λ _. stored-named)
   where
-    go : (t : Bool) → pick t (finish (f + length (payload s)) (laid f s b))
-        (outcome Stored (Open (sectionNumber s + 1) (f + length (payload s)) (keyOf s)) (laid f s b)) .step .answer ≡ Refused n → ⊥
-    go true p = let z : _≡_ {A = ℕ} 0 1 = cc in omega arith
-    go false p = let z : _≡_ {A = ℕ} 0 1 = cc in omega arith
+    go : (end : End) → Named (upTo end b (laid f s b))
+    go (At n) = delivered-named n
+    go NoEnd = refused-named b 25 (record { two = λ z. omega arith; one = λ z. omega arith; zero = λ z. omega arith })
 
 pub receiver-names : ReceiverNames
-receiver-names c σ s b =
-    by-step σ s b Named (refused-named b) (own-named PassedBy (λ n p. let z : _≡_ {A = ℕ} 0 1 = cc in omega arith))
-    (λ f e. own-named (keep f s b .step .answer) (no-refusal f s b)) c
+receiver-names c σ s b = by-step σ s b Named (refused-named b) passed-named (λ f _ _. kept-named f s b) c
 
 -- ---- the sender
 pub sender-gives : SenderGives

@@ -9,6 +9,7 @@ use lib.ListN.{length, take, length-take}
 use Rattle.wire.specs.Bytes.{numberAt}
 use Rattle.wire.specs.Choice.{both}
 use Rattle.rules.specs.declared.Settings.{Settings}
+use Rattle.rules.specs.declared.End.the-variants.{At}
 use Rattle.rules.specs.declared.Key.{Key}
 use Rattle.rules.specs.declared.Answer.the-variants.{Delivered, Stored}
 use Rattle.rules.specs.declared.Sending.the-variants.{Sent}
@@ -24,7 +25,8 @@ use Rattle.rules.proofs.Written.{sent, sent-is, sent-limits}
 use Rattle.rules.proofs.Tested.{elsewhere, joined, InRun, Receivable}
 use Rattle.rules.specs.Section.{header, sealed, sectionLength, sectionOf}
 use Rattle.rules.specs.Send.{piece, sectionAt, sectionCount, sections, sectionsTo, sentOf}
-use Rattle.rules.specs.Step.{finish, keyOf, Outcome, ours, room, stepOf}
+use Rattle.rules.specs.Step.{keyOf, Outcome, ours, room, stepOf, upTo}
+use Rattle.rules.specs.UnitEnd.{unitEnd}
 use Rattle.rules.proofs.Recording.{Framed, offers-sections}
 use Rattle.rules.proofs.Due.{Due, refused, finished, stored, due, due-holds, Holds, started}
 use Rattle.rules.proofs.Lists.{map-more}
@@ -151,7 +153,7 @@ module _ (c : Settings) (llcSnap : Bool) (n : ℕ) (u out : List ℕ) (a : Accep
     some-to k = omega (arith, sections-length c llcSnap n u (suc k))
 
     outcomes : (k : ℕ) → k < count → {now : List ℕ} {o : Outcome} → Due c b (row k) now (at k) o → Outcomes k o
-    unfolding finish sections
+    unfolding upTo sections
     outcomes k h (refused never-ends) = absurd (never-ends key (to (suc k)) (run-next k h) (some-to k))
     outcomes k h (finished {f = f} {after = after} size g last) =
         let p : InRun c key k (at k) = agreed k h in
@@ -160,11 +162,14 @@ module _ (c : Settings) (llcSnap : Bool) (n : ℕ) (u out : List ℕ) (a : Accep
         let all : joined (g .sections) ≡ u =
         ap joined (same .sections ∙ ap to is) ∙ sections-joined c llcSnap n u (a .some) (a .most) in
         let size : f ≡ length u = sym (g .filled) ∙ ap length all in
-        record {
+        let ends : unitEnd (keyOf (at k) .«llc_snap») (joined (g .sections)) ≡ At (length u) =
+        ap₂ (λ (κ : Key) (p : List ℕ). unitEnd (κ .«llc_snap») p) (p .agrees) all ∙ a .ends in
+        rw ends
+        (record {
           stored = λ l. absurd (omega arith);
-          delivered = λ l. ap Delivered size;
+          delivered = λ l. refl;
           unit = λ l. ap (λ (m : ℕ). take m after) (sym size) ∙ g .bytes ∙ all;
-        }
+        })
     outcomes k h (stored size g part) =
         let p : InRun c key k (at k) = agreed k h in
         let more : k < count - 1 = omega (arith, p .numbered, ap (λ (κ : Key). κ .last) (p .agrees)) in

@@ -21,8 +21,8 @@ use Rattle.rules.specs.Row.{after, datagram, Event, fresh, gap, handedBy
 use Rattle.rules.specs.Demand3.{Demand3Holds, Elsewhere, Ends, HandedRight, joined, OfBytes, Once, OnlyOne, InRun, Ready, Receivable, Struck, WholeRun}
 use Rattle.rules.specs.Meaning.{Good, Own}
 use Rattle.rules.proofs.Compared.{compares-last}
-use Rattle.rules.proofs.Due.{no-datagram}
 use Rattle.rules.proofs.Exactly.{read-back}
+use Rattle.rules.proofs.Finish.{no-datagram}
 use Rattle.rules.proofs.Good.{good-is}
 use Rattle.rules.proofs.Read.{read, read-is, read-limits}
 use Rattle.rules.proofs.Written.{carried, clear-back, flagged-back, last-back, number-back, address-back, written-sound}
@@ -31,6 +31,8 @@ use Rattle.rules.proofs.Runs as runs
 use Rattle.rules.proofs.Tested as tested
 use Rattle.rules.proofs.Tested.{elsewhere, strike}
 use Rattle.rules.proofs.Track.{room-bounds}
+use Rattle.rules.proofs.OwnLength.{own-length}
+use Rattle.rules.proofs.UnitEnd.{unit-ends}
 
 -- ---- the tests, in words
 own-read : (c : Settings) (s : List ℕ) → (ours c s ≡ true) ↔ Own c (read s .address)
@@ -237,6 +239,8 @@ module _ (c : Settings) (b : List ℕ) where
         whole = length-map xs read ∙ u .whole;
         unit = rw (joined-read xs) (omega (arith, u .run .fits, room-bounds b .0));
         room = rw (joined-read xs) (omega (arith, u .run .fits, room-bounds b .1));
+        end = u .end;
+        ends = rw (joined-read xs) (unit-ends (u .key .«llc_snap») (tested.joined xs) (u .end) .0 (u .ends));
       }
     where
       each : (front back : List Values) (v : Values) → map read xs ≡ front ++ (v ∷ back)
@@ -263,6 +267,8 @@ module _ (c : Settings) (b : List ℕ) where
         run = record { each = each; fits = rw (joined-written vs) (omega (arith, u .unit, u .room)) };
         whole = length-map vs table3 ∙ u .whole;
         within = omega (arith, length-map vs table3, u .whole, first .ending, first .receivable .within);
+        end = u .end;
+        ends = rw (joined-written vs) (unit-ends (u .llcSnap) (joined vs) (u .end) .1 (u .ends));
       }
     where
       key : Key
@@ -281,7 +287,7 @@ module _ (c : Settings) (b : List ℕ) where
   ends-written {row} {vs} e = record { front = e .front; split = rw (rows-written vs) (e .split) }
 
   ready-is : (row : List Event) (n : ℕ) (d : List ℕ) → Good c → OfBytes row → tested.Ready c b row n d ↔ Ready c b row n d
-  unfolding tested.unit
+  unfolding run-read run-written
   ready-is row n d good given = (
     λ w.
         let xs : List (List ℕ) = w .sections in
@@ -291,7 +297,7 @@ module _ (c : Settings) (b : List ℕ) where
           sections = map read xs;
           run = run-read xs good bytes (w .run);
           there = ends-read (λ i h. read-is (getD xs i []) (bytes i h) (w .run .run .each i h .receivable .sound)) (w .there);
-          bytes = w .bytes ∙ sym (joined-read xs);
+          bytes = w .bytes ∙ ap (take (w .run .end)) (sym (joined-read xs));
           size = w .size;
         },
     λ w.
@@ -299,7 +305,7 @@ module _ (c : Settings) (b : List ℕ) where
           sections = map table3 (w .sections);
           run = run-written (w .sections) (w .run);
           there = ends-written (w .there);
-          bytes = w .bytes ∙ sym (joined-written (w .sections));
+          bytes = w .bytes ∙ ap (take (w .run .end)) (sym (joined-written (w .sections)));
           size = w .size;
         },
   )
@@ -360,4 +366,5 @@ demand-3 c b =
       strikes = λ r given. (strike c r, strike-is c r given);
       only = only-one c b;
       once = at-once c b;
+      own = λ h s. own-length c h s;
     }

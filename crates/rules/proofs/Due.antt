@@ -1,34 +1,34 @@
 -- The tests that lead to an answer say whether the row ends in a run with the section, and whether that run is whole.
 use Prim.Native.Nat.{ℕ, _+_, _≤_, _<_}
 use native.Mathlib.Omega.{arith}
-use mathlib.Core.Path.{_≡_, refl, ap, sym, _∙_}
+use mathlib.Core.Path.{_≡_, refl, ap, ap₂, sym, _∙_}
 use mathlib.Core.Logic.{_↔_}
 use mathlib.Core.Bool.{Bool, true, false}
 use mathlib.Core.List.{List, [], _∷_, _++_}
-use lib.ListN.{length}
+use lib.ListN.{length, take}
 use borrow.Author.Tests.{eqb-true, eqb-false, leb-true, leb-false, not-true}
 use Rattle.wire.specs.Choice.{pick, both, first, firstOf}
 use Rattle.wire.proofs.Choice.{both-true, never}
 use Rattle.rules.specs.declared.Settings.{Settings}
+use Rattle.rules.specs.declared.End.{End}
 use Rattle.rules.specs.declared.Key.{Key}
 use Rattle.rules.specs.declared.State.{State}
 use Rattle.rules.specs.declared.State.the-variants.{Open}
 use Rattle.rules.specs.declared.Answer.the-variants.{Stored, PassedBy}
 use Rattle.rules.specs.Section.{sectionNumber, payload}
 use Rattle.rules.specs.Check.{check}
-use Rattle.rules.specs.Step.{setupLines, ownRefusal, finish, goodSettings, goodState, keep, keyOf, lay, Fill, Nowhere, From, fillFrom, room}
-use Rattle.rules.specs.Step.{Outcome, ours, outcome, refuse, refuseFirst, setupLines, stepOf}
-use Rattle.rules.specs.Row.{Event, section, Held, fresh, nothing, datagram, handedBy}
+use Rattle.rules.specs.Step.{setupLines, ownRefusal, finish, goodSettings, goodState, joinedWith, keep, keyOf, lay, Fill, Nowhere, From, fillFrom, room}
+use Rattle.rules.specs.Step.{Outcome, ours, outcome, refuse, refuseFirst, setupLines, stepOf, upTo}
+use Rattle.rules.specs.Row.{Event, section, Held, fresh, datagram, handedBy}
+use Rattle.rules.specs.UnitEnd.{unitEnd}
 use Rattle.rules.proofs.Tested.{elsewhere, joined}
-use Rattle.rules.proofs.Tested.{Receivable, WholeRun, Ready}
+use Rattle.rules.proofs.Tested.{Receivable, Ready}
 use Rattle.rules.proofs.Sound.{none-own, own-none}
 use Rattle.rules.proofs.Runs.{EndsIn, ends-size, Next, next, Same, only, whole-ends}
-use Rattle.rules.proofs.Track.{key-last, in-order, room-bounds, room-same, laid-length, nowhere}
+use Rattle.rules.proofs.Track.{key-flag, key-last, in-order, room-bounds, room-same, laid-length, laid-take, nowhere}
 use Rattle.rules.proofs.Track.{Gathered, Track, within, follows, filled-from, grown}
-use Rattle.rules.proofs.Finish.{handed, held, carried, ready, finish-held, finish-hands}
-
-pub no-datagram : {n : ℕ} {d : List ℕ} → nothing ≡ datagram n d → ⊥
-no-datagram p = let z : _≡_ {A = ℕ} 0 1 = cc in omega arith
+use Rattle.rules.proofs.Finish.{Carries, up-to-hands, up-to-size, up-to-state, handed, held, no-datagram}
+use Rattle.rules.proofs.UnitEnd.{end-within}
 
 pub pick-case : (P : Outcome → Type 0) (t : Bool) (o u : Outcome) → (t ≡ true → P o) → (t ≡ false → P u) → P (pick t o u)
 unfolding pick
@@ -70,10 +70,10 @@ module _ (c : Settings) (b : List ℕ) where
     -- no run
     refused : {n : ℕ} → ((κ : Key) (xs : List (List ℕ)) → EndsIn c b (past ++ (section s ∷ [])) κ xs → 0 < length xs → ⊥)
         → Due past now s (refuse n now)
-    -- a whole run
+    -- a run up to its last number, whose unit has an end or not
     finished : {f : ℕ} {after : List ℕ} → length after ≡ length b
-        → Gathered c b (past ++ (section s ∷ [])) after (sectionNumber s + 1) f (keyOf s)
-        → sectionNumber s ≡ keyOf s .last → Due past now s (finish f after)
+        → (g : Gathered c b (past ++ (section s ∷ [])) after (sectionNumber s + 1) f (keyOf s))
+        → sectionNumber s ≡ keyOf s .last → Due past now s (upTo (unitEnd (keyOf s .«llc_snap») (joined (g .sections))) now after)
     -- an open run
     stored : {f : ℕ} {after : List ℕ} → length after ≡ length b
         → Gathered c b (past ++ (section s ∷ [])) after (sectionNumber s + 1) f (keyOf s)
@@ -82,15 +82,16 @@ module _ (c : Settings) (b : List ℕ) where
   pub due-holds : {past : List Event} {now s : List ℕ} {o : Outcome} → length now ≡ length b → goodState c (o .step .state) ≡ true
       → Due past now s o → Holds (past ++ (section s ∷ [])) (held o)
   due-holds size good (refused never-ends) = record { size = size; good = good; track = λ κ xs e some partial. never-ends κ xs e some }
-  due-holds size good (finished {f = f} {after = after} size′ g whole) =
-      rw (finish-held f after)
-      (record {
-        size = size′;
-        good = ap (goodState c) (ap (λ (h : Held). h .state) (sym (finish-held f after))) ∙ good;
-        track = λ κ xs e some partial.
+  due-holds {past} {now} {s} size good (finished {f = f} {after = after} size′ g whole) =
+      let end : End = unitEnd (keyOf s .«llc_snap») (joined (g .sections)) in
+      record {
+        size = up-to-size end now after (length b) size size′;
+        good = good;
+        track = rw (up-to-state end now after)
+            (λ κ xs e some partial.
             let same = only c b e (g .run) some (omega (arith, g .count)) in
-            omega (arith, ap length (same .sections), ap (λ (μ : Key). μ .last) (same .key), g .count);
-      })
+            omega (arith, ap length (same .sections), ap (λ (μ : Key). μ .last) (same .key), g .count));
+      }
   due-holds size good (stored size′ g part) =
       record { size = size′; good = good; track = record { gathered = g; some = omega arith; partial = omega arith } }
 
@@ -108,15 +109,38 @@ module _ (c : Settings) (b : List ℕ) where
     λ w. absurd (never-ends (w .run .key) (w .sections) (whole-ends c b (w .run) (w .there)) (omega (arith, w .run .whole))),
   )
   due-hands {past} {now} {s} (finished {f = f} {after = after} size g last) n d =
-      let fits : f ≤ length after = omega (arith, g .filled, g .run .run .fits, room-bounds b .1) in
-      let hands = finish-hands f after (joined (g .sections)) fits (g .bytes) n d in
-      let limit : keyOf s .last + 1 ≤ c .limit = within c b (g .run) (omega (arith, g .count)) in
-      let whole : WholeRun c b (g .sections) =
-      record { key = keyOf s; run = g .run .run; whole = omega (arith, g .count); within = omega (arith, g .count) } in (
-        λ p. ready whole (g .run .there) (hands .0 p),
+      let p : List ℕ = joined (g .sections) in
+      let llcSnap : Bool = keyOf s .«llc_snap» in
+      let fits : length p ≤ length after = omega (arith, g .run .run .fits, room-bounds b .1) in
+      let bytes : take (length p) after ≡ p = ap (λ (k : ℕ). take k after) (g .filled) ∙ g .bytes in
+      let hands = up-to-hands (unitEnd llcSnap p) now after p bytes fits (end-within llcSnap p) n d in
+      let limit : keyOf s .last + 1 ≤ c .limit = within c b (g .run) (omega (arith, g .count)) in (
+        λ q.
+            let k : Carries (unitEnd llcSnap p) p n d = hands .0 q in
+            record {
+              sections = g .sections;
+              run =
+                  record {
+                    key = keyOf s;
+                    run = g .run .run;
+                    whole = omega (arith, g .count);
+                    within = omega (arith, g .count);
+                    end = k .end;
+                    ends = k .ends;
+                  };
+              there = g .run .there;
+              bytes = k .bytes;
+              size = k .size;
+            },
         λ w.
             let same = ready-run w g (omega arith) in
-            hands .1 (rw (same .sections) at (carried w)),
+            hands .1
+            (record {
+              end = w .run .end;
+              ends = ap₂ (λ (κ : Key) (xs : List (List ℕ)). unitEnd (κ .«llc_snap») (joined xs)) (sym (same .key)) (sym (same .sections)) ∙ w .run .ends;
+              bytes = w .bytes ∙ ap (λ (xs : List (List ℕ)). take (w .run .end) (joined xs)) (same .sections);
+              size = w .size;
+            }),
       )
   due-hands (stored size g part) n d = (
     λ p. absurd (no-datagram p),
@@ -140,13 +164,14 @@ module _ (c : Settings) (b : List ℕ) where
 
     keeps : Receivable c s → (f : ℕ) → fillFrom (h .state) s ≡ From f → f + length (payload s) ≤ room (h .buffer)
         → Here (keep f s (h .buffer))
-    unfolding keep
+    unfolding keep finish joinedWith
     keeps k f q fits =
         let rooms : room (h .buffer) ≡ room b = room-same (h .buffer) b (i .size) in
         let before = follows c b past (h .state) (h .buffer) s f (i .track) q in
         let g = grown c b past (h .buffer) s f k before (omega arith) (i .size) in
         let size = laid-length f s (h .buffer) (omega (arith, room-bounds (h .buffer) .1)) ∙ i .size in
-        pick-case Here _ _ _ (λ t. finished size g (eqb-true _ _ t ∙ sym (key-last s)))
+        let all : joinedWith f s (h .buffer) ≡ joined (g .sections) = sym (laid-take f s (h .buffer) (omega (arith, room-bounds (h .buffer) .1))) ∙ g .bytes in
+        pick-case Here _ _ _ (λ t. rw (all, ← key-flag s) (finished size g (eqb-true _ _ t ∙ sym (key-last s))))
         (λ t.
         let other : sectionNumber s ≡ keyOf s .last → ⊥ = λ e. eqb-false _ _ t (e ∙ key-last s) in
         stored size g (omega (arith, in-order s (k .sound))))

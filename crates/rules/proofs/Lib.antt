@@ -1,4 +1,5 @@
 pub mod After
+pub mod BufferRead
 pub mod Check
 pub mod Compared
 pub mod Crc
@@ -15,6 +16,7 @@ pub mod Lists
 pub mod Made
 pub mod Meaning
 pub mod Offer
+pub mod OwnLength
 pub mod Pieces
 pub mod Read
 pub mod Row
@@ -25,4 +27,5 @@ pub mod Sound
 pub mod Split
 pub mod Tested
 pub mod Track
+pub mod UnitEnd
 pub mod Written

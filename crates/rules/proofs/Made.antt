@@ -18,9 +18,10 @@ use Rattle.rules.specs.After.{MadeGood}
 use Rattle.rules.specs.Check.{check}
 use Rattle.rules.specs.Meaning.{Good, GoodState}
 use Rattle.rules.specs.Section.{address, lastSectionNumber, payload, sectionNumber}
-use Rattle.rules.specs.Step.{continues, Fill, fillFrom, finish, From, goodState, keep, keyOf, lay, Nowhere, onward, ours, Outcome, ownRefusal, refuseFirst, room, setupLines, stepOf}
+use Rattle.rules.specs.Step.{continues, Fill, fillFrom, finish, From, goodState, keep, keyOf, laid, lay, Nowhere, onward, ours, Outcome, ownRefusal, refuseFirst, room, setupLines, stepOf}
 use Rattle.rules.proofs.Compared.{compares-last}
 use Rattle.rules.proofs.Due.{pick-case}
+use Rattle.rules.proofs.Finish.{up-to-state}
 use Rattle.rules.proofs.Good.{good-is}
 use Rattle.rules.proofs.Meaning.{state-tells}
 use Rattle.rules.proofs.Sound.{own-none, payload-small, sound}
@@ -74,7 +75,7 @@ module _ (c : Settings) (σ : State) (s b : List ℕ) where
   keeps : Passed → (f : ℕ) → fillFrom σ s ≡ From f → f + length (payload s) ≤ room b → Leaves (keep f s b)
   unfolding keep finish keyOf GoodState ours
   keeps t f q fits =
-      pick-case Leaves _ _ _ (λ _. idle)
+      pick-case Leaves _ _ _ (λ _. rw (up-to-state _ b (laid f s b)) idle)
       (λ other.
       let more : sectionNumber s ≡ lastSectionNumber s → ⊥ = eqb-false _ _ other in
       let order : sectionNumber s ≤ lastSectionNumber s = sound s (t .sound) .shared .order in (

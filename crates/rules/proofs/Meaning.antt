@@ -7,14 +7,16 @@ use mathlib.Core.List.{List, [], _∷_, _++_, flatten}
 use mathlib.Core.Bool.{Bool, true, false, not, Bool·beq}
 use lib.ListN.{length, take}
 use lib.Dec.{eqb, leb, ltb}
-use borrow.Author.Tests.{eqb-false, eqb-true, leb-false, leb-true, lt-leb, ltb-false, not-false, not-true}
+use borrow.Author.Tests.{eqb-false, eqb-true, leb-false, leb-true, lt-leb, ltb-false, ne-eqb, not-false, not-true}
 use Rattle.wire.specs.Bytes.{bit, bits, byteAt, numberAt}
 use Rattle.wire.specs.Choice.{pick, both, Line, first, firstOf, without}
 use Rattle.wire.specs.Meaning.{Row, _means_}
 use Rattle.wire.proofs.Choice.{both-true, never, not-first}
 use Rattle.wire.proofs.Meaning.{Gives, gives-last, gives-row, or-else, or-zero, orElse, Tells, tells-both, tells-either, tells-eq, tells-le, tells-lt, tells-not, tells-outside}
 use Rattle.rules.specs.declared.Address.{Address}
-use Rattle.rules.specs.declared.Answer.the-variants.{PassedBy}
+use Rattle.rules.specs.declared.Answer.the-variants.{PassedBy, Stored}
+use Rattle.rules.specs.declared.End.{End}
+use Rattle.rules.specs.declared.End.the-variants.{At, NoEnd}
 use Rattle.rules.specs.declared.Form.{Form}
 use Rattle.rules.specs.declared.Key.{Key}
 use Rattle.rules.specs.declared.Settings.{Settings}
@@ -23,14 +25,16 @@ use Rattle.rules.specs.declared.State.the-variants.{Idle, Open}
 use Rattle.rules.specs.Address.{sameAddress}
 use Rattle.rules.specs.Check.{addressScrambled, check, checkLines, checksumForm, datagramForm, sharedRefusal, sharedLines, formLines, notCurrent, orderLines, otherTable, outOfOrder, tooShort, wrongCrc, wrongLength, wrongSyntax}
 use Rattle.rules.specs.Crc.{crc32}
-use Rattle.rules.specs.Meaning.{CheckMeans, CutInto, filledBefore, GoesOn, GoodState, DefaultMeans, InChecksumForm, Own, printed, ReceiverMeans, sectionRows, SenderMeans, rows12to14, rows16to18}
+use Rattle.rules.specs.Meaning.{CheckMeans, CutInto, filledBefore, GoesOn, GoodState, DefaultMeans, InChecksumForm, joinedUp, Own, printed, ReceiverMeans, sectionRows, SenderMeans, stored, rows12to14, rows16to18}
 use Rattle.rules.specs.Section.{address, addressScramblingControl, crcField, currentNextIndicator, lastSectionNumber, llcSnapFlag, payload, payloadScramblingControl, privateIndicator, sectionLength, sectionNumber, sectionSyntaxIndicator, tableId}
-use Rattle.rules.specs.Step.{ownLines, continues, From, goodRun, goodState, keep, keyOf, lay, Nowhere, numberOf, onward, ours, Outcome, outcome, overLimit, payloadScrambled, fillFrom, refuse, refuseFirst, room, sameKey, setupLines, stepOf, finish}
+use Rattle.rules.specs.Step.{ownLines, continues, From, goodRun, goodState, joinedWith, keep, keyOf, laid, lay, Nowhere, numberOf, onward, ours, Outcome, outcome, overLimit, payloadScrambled, fillFrom, refuse, refuseFirst, room, sameKey, setupLines, stepOf, finish, upTo}
 use Rattle.rules.proofs.Compared.{compares-all, compares-last}
 use Rattle.rules.proofs.Good.{good-is}
 use Rattle.rules.specs.Send.{sectionCount, sections, sendingNumber, sendLines, SendOutcome, sentOf, written}
 use Rattle.rules.proofs.Send.{cut, one-cut, sections-bytes}
+use Rattle.rules.specs.UnitEnd.{NoDatagram, unitEnd}
 use Rattle.rules.proofs.Sound.{payload-length}
+use Rattle.rules.proofs.UnitEnd.{endless, unit-endless, unit-not-one}
 
 -- ---- 12 to 18 and 24, for any table
 -- the rows at 15's place give the numbers of the two lines there
@@ -162,6 +166,10 @@ unfolding filledBefore
 filled-open e f κ zero h = absurd (h refl)
 filled-open e f κ (suc i) h = refl
 
+pub stored-is : (s : List ℕ) → payload s ≡ stored s
+unfolding payload
+stored-is s = let e : length s - 4 - 12 ≡ length s - 16 = omega arith in rw e
+
 check-numbered : (s : List ℕ) → without 0 (checkLines s) ≡ true
 unfolding without both checkLines sharedLines formLines orderLines
 check-numbered s = refl
@@ -173,13 +181,34 @@ module _ (s b : List ℕ) where
   abbrev rows23 : State → List Row
   rows23 σ =
       23 means (min 65535 (length b) < filledBefore σ (byteAt s 6) + (length s - 16))
+      ∷ 25 means ((byteAt s 6 ≡ byteAt s 7) × (bit 1 (byteAt s 5) ≡ 0) × NoDatagram (joinedUp σ s b))
       ∷ 1 means (byteAt s 6 ≢ byteAt s 7)
       ∷ 0 means (byteAt s 6 ≡ byteAt s 7)
       ∷ []
 
-  number-kept : (f : ℕ) → number (keep f s b) ≡ first (not (eqb (byteAt s 6) (byteAt s 7))) 1 0
-  unfolding keep finish numberOf sectionNumber lastSectionNumber
-  number-kept f = number-pick (eqb (byteAt s 6) (byteAt s 7)) _ _ ∙ pick-first (eqb (byteAt s 6) (byteAt s 7)) 1 0
+  -- 25's line: the section is the last, and the unit has no end
+  abbrev unended : ℕ → Bool
+  unended f = both (eqb (byteAt s 6) (byteAt s 7)) (endless (unitEnd (llcSnapFlag s) (joinedWith f s b)))
+
+  number-kept : (f : ℕ) → number (keep f s b) ≡ first (unended f) 25 (first (not (eqb (byteAt s 6) (byteAt s 7))) 1 0)
+  unfolding keep finish upTo numberOf sectionNumber lastSectionNumber pick both first endless
+  number-kept f = go (eqb (byteAt s 6) (byteAt s 7)) (unitEnd (llcSnapFlag s) (joinedWith f s b))
+    where
+      go : (t : Bool) (e : End) → number (pick t (upTo e b (laid f s b)) (outcome Stored (Open (sectionNumber s + 1) (f + length (payload s)) (keyOf s)) (laid f s b)))
+          ≡ first (both t (endless e)) 25 (first (not t) 1 0)
+      go true (At n) = refl
+      go true NoEnd = refl
+      go false e = refl
+
+  unended-tells : (f : ℕ) → Tells (unended f) ((byteAt s 6 ≡ byteAt s 7) × (bit 1 (byteAt s 5) ≡ 0) × NoDatagram (take f b ++ stored s))
+  unfolding joinedWith llcSnapFlag
+  unended-tells f =
+      let t = tells-both _ _ (tells-eq (byteAt s 6) (byteAt s 7)) (unit-endless (llcSnapFlag s) (take f b ++ payload s)) in
+      let off : (bit 1 (byteAt s 5) ≡ 1 → ⊥) → bit 1 (byteAt s 5) ≡ 0 = λ n. omega arith in
+      rw (← stored-is s) (
+        λ q. let w = t .0 q in (w .0, off (eqb-false _ _ (w .1 .0)), w .1 .1),
+        λ w. t .1 (w .0, (ne-eqb (bit 1 (byteAt s 5)) 1 (λ one. omega (arith, one, w .1)), w .2)),
+      )
 
   number-laid : (f : ℕ) → number (lay (From f) s b) ≡ first (not (leb (f + length (payload s)) (min 65535 (length b)))) 23 (number (keep f s b))
   unfolding lay numberOf room
@@ -189,8 +218,9 @@ module _ (s b : List ℕ) where
   gives-laid σ f e l =
       rw (number-laid f, number-kept f, payload-length s l, e)
       (gives-row _ 23 (tells-over (f + (length s - 16)) (min 65535 (length b))) (λ _.
+      gives-row _ 25 (unended-tells f) (λ _.
       gives-row _ 1 (tells-not _ (tells-eq (byteAt s 6) (byteAt s 7))) (λ z.
-      gives-last 0 (eqb-true _ _ (not-false _ z)))))
+      gives-last 0 (eqb-true _ _ (not-false _ z))))))
 
   stopped : (σ : State) → byteAt s 6 ≢ 0 → (¬ GoesOn σ s) → Gives 22 (row22 σ ∷ rows23 σ)
   unfolding first
@@ -269,12 +299,13 @@ sender-means c llcSnap size u out n =
     (gives-row _ 10 (tells-not _ (good-is c)) (λ _.
     gives-row _ 50 (tells-outside 1 4080 size) (λ e50.
     gives-row _ 51 (tells-lt 65535 (length u)) (λ _.
+    gives-row _ 54 (unit-not-one llcSnap u) (λ _.
     let some : 0 < size = leb-true 1 size (both-true _ _ (not-false _ e50) .0) in
     gives-row _ 52 (counted size u some _ (λ k. c .limit < k) (tells-lt (c .limit) (sectionCount size u))) (λ _.
     gives-row _ 53
     (counted size u some (ltb (length out) (length (flatten (sections c llcSnap size u)))) (λ k. length out < length u + 16 * k)
     (rw (sections-bytes c llcSnap size u some) (tells-lt (length out) (length u + 16 * sectionCount size u)))) (λ _.
-    gives-last 0 tt))))) .exactly n)
+    gives-last 0 tt)))))) .exactly n)
 
 pub default-means : DefaultMeans
 default-means c llcSnap u out n = sender-means c llcSnap 1008 u out n

@@ -6,7 +6,7 @@ use native.Mathlib.Omega.{arith}
 use mathlib.Core.Path.{_≡_, refl, ap, sym, _∙_}
 use mathlib.Core.Logic.{inl, inr, ⊎-elim}
 use mathlib.Core.List.{List, [], _∷_, _++_}
-use mathlib.Core.Bool.{Bool}
+use mathlib.Core.Bool.{Bool, false}
 use lib.ListN.{drop, getD, length, length-append, take}
 use lib.Seq.{getD-append-seam}
 use Rattle.wire.specs.Meaning.{FirstThat}
@@ -15,6 +15,7 @@ use Rattle.rules.specs.Meaning.{CutInto, Good, senderRows}
 use Rattle.rules.specs.Pieces.{InPiecesOf, SmallByDefault}
 use Rattle.rules.specs.Recording.{offers}
 use Rattle.rules.specs.Send.{piece, sectionAt, sectionCount, sections, sendingLength, sendingNumber, SendOutcome, sentOf}
+use Rattle.rules.specs.UnitEnd.{NotOneDatagram}
 use Rattle.rules.proofs.Demand2.{offers-sent}
 use Rattle.rules.proofs.Meaning.{sender-means}
 use Rattle.rules.proofs.Send.{count-covers, cut, fewest, one-cut, piece-small, section-size, sections-at, sections-length, sent-by-number}
@@ -31,7 +32,8 @@ section-short c llcSnap size u front back s e =
     sym (sections-at c llcSnap size u count i h) ∙ ap (λ (xs : List (List ℕ)). getD xs i []) e ∙ getD-append-seam front s back [] in
     omega (arith, ap length is, section-size (c .address) llcSnap i (count - 1) (piece size u i), piece-small size u i)
 
-module _ (c : Settings) (llcSnap : Bool) (size : ℕ) (u out : List ℕ) (some : 1 ≤ size) (most : size ≤ 4080) (good : Good c) (unit : length u ≤ 65535) where
+module _ (c : Settings) (llcSnap : Bool) (size : ℕ) (u out : List ℕ) (some : 1 ≤ size) (most : size ≤ 4080) (good : Good c) (unit : length u ≤ 65535)
+    (one : ¬ ((llcSnap ≡ false) × NotOneDatagram u)) where
   abbrev count : ℕ
   count = sectionCount size u
 
@@ -52,27 +54,27 @@ module _ (c : Settings) (llcSnap : Bool) (size : ℕ) (u out : List ℕ) (some :
   enough h = fewest size u some (c .limit) (good .limit1) (omega (arith, h, mul-comm size (c .limit)))
 
   -- ---- which number it is
-  -- none of 10, 50 and 51: the first of the others that applies
-  past-51 : (n : ℕ) → FirstThat n (drop 3 (senderRows c size u out)) → number ≡ n
+  -- none of 10, 50, 51 and 54: the first of the others that applies
+  past-54 : (n : ℕ) → FirstThat n (drop 4 (senderRows c llcSnap size u out)) → number ≡ n
   unfolding FirstThat
-  past-51 n r =
+  past-54 n r =
       sender-means c llcSnap size u out n .1
-      (inr (λ w. w good, inr (⊎-elim (λ w. omega arith) (λ w. omega arith), inr (λ w. omega arith, r))))
+      (inr (λ w. w good, inr (⊎-elim (λ w. omega arith) (λ w. omega arith), inr (λ w. omega arith, inr (one, r)))))
 
   no-52 : count ≤ c .limit → ¬ ((k : ℕ) × CutInto size u k × (c .limit < k))
   no-52 h w = omega (arith, h, one-cut size u some (w .0) (w .1), w .2)
 
   is-52 : c .limit < count → number ≡ 52
   unfolding FirstThat
-  is-52 h = past-51 52 (inl (refl, (count, cut size u some, h)))
+  is-52 h = past-54 52 (inl (refl, (count, cut size u some, h)))
 
   is-53 : count ≤ c .limit → length out < length u + 16 * count → number ≡ 53
   unfolding FirstThat
-  is-53 h l = past-51 53 (inr (no-52 h, inl (refl, (count, cut size u some, l))))
+  is-53 h l = past-54 53 (inr (no-52 h, inl (refl, (count, cut size u some, l))))
 
   is-0 : count ≤ c .limit → length u + 16 * count ≤ length out → number ≡ 0
   unfolding FirstThat
-  is-0 h l = past-51 0 (inr (no-52 h, inr (λ w. omega (arith, l, one-cut size u some (w .0) (w .1), w .2), inl (refl, tt))))
+  is-0 h l = past-54 0 (inr (no-52 h, inr (λ w. omega (arith, l, one-cut size u some (w .0) (w .1), w .2), inl (refl, tt))))
 
   over-limit : number ≡ 52 → size * c .limit < length u
   over-limit e = go (decLt (size * c .limit) (length u)) (decLt (length out) (length u + 16 * count))
@@ -100,4 +102,4 @@ module _ (c : Settings) (llcSnap : Bool) (size : ℕ) (u out : List ℕ) (some :
       }
 
 pub small-by-default : SmallByDefault
-small-by-default c llcSnap u out good unit = in-pieces c llcSnap 1008 u out (omega arith) (omega arith) good unit
+small-by-default c llcSnap u out good unit one = in-pieces c llcSnap 1008 u out (omega arith) (omega arith) good unit one

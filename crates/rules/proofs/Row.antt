@@ -13,7 +13,8 @@ use Rattle.rules.specs.Row.{Event, section, gap, Held, fresh, next, afte
 use Rattle.rules.proofs.Tested.{elsewhere, strike, Ready, RowTheorem}
 use Rattle.rules.proofs.Runs.{no-gap}
 use Rattle.rules.proofs.Made.{made-tested}
-use Rattle.rules.proofs.Due.{no-datagram, passes, Holds, started, due-holds, due-hands, due}
+use Rattle.rules.proofs.Finish.{no-datagram}
+use Rattle.rules.proofs.Due.{passes, Holds, started, due-holds, due-hands, due}
 
 -- ---- the struck row
 strike-append : (c : Settings) (r q : List Event) → strike c (r ++ q) ≡ strike c r ++ strike c q

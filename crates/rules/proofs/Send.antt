@@ -13,24 +13,28 @@ use Rattle.wire.specs.Bytes.{over}
 use Rattle.wire.specs.Choice.{pick, firstOf}
 use Rattle.rules.specs.declared.Address.{Address}
 use Rattle.rules.specs.declared.Settings.{Settings}
+use Rattle.rules.specs.declared.End.the-variants.{At}
 use Rattle.rules.specs.declared.Sending.the-variants.{Sent, Unsent}
 use Rattle.rules.specs.Section.{header, sectionOf}
 use Rattle.rules.specs.Meaning.{CutInto, Good}
 use Rattle.rules.proofs.Tested.{joined}
 use Rattle.rules.specs.Send.{piece, sectionAt, sectionCount, sections, sectionsTo, sendingLength, sendingNumber, sendLines, SendOutcome, sentOf, written}
+use Rattle.rules.specs.UnitEnd.{unitEnd}
 use Rattle.rules.proofs.Lists.{length-more}
 use Rattle.rules.proofs.Runs.{joined-more}
 use Rattle.wire.proofs.Choice.{both-true, none-first}
 use Rattle.rules.proofs.Good.{good-is}
+use Rattle.rules.proofs.UnitEnd.{ends-at}
 use Rattle.rules.proofs.Written.{sealed-length, Written, written-is-read}
 
 -- ---- what is accepted
--- none of 10 and 50 to 53 applies
+-- none of 10 and 50 to 54 applies
 pub record Accepted (c : Settings) (llcSnap : Bool) (size : ℕ) (u out : List ℕ) : Type 0 where
   pub settings : Good c
   pub some : 1 ≤ size
   pub most : size ≤ 4080
   pub unit : length u ≤ 65535
+  pub ends : unitEnd llcSnap u ≡ At (length u)
   pub limit : sectionCount size u ≤ c .limit
   pub room : length (flatten (sections c llcSnap size u)) ≤ length out
 
@@ -45,7 +49,8 @@ module _ (c : Settings) (llcSnap : Bool) (n : ℕ) (u out : List ℕ) where
       let t10 = none-first _ _ (omega arith) p in
       let t50 = none-first _ _ (omega arith) (t10 .1) in
       let t51 = none-first _ _ (omega arith) (t50 .1) in
-      let t52 = none-first _ _ (omega arith) (t51 .1) in
+      let t54 = none-first _ _ (omega arith) (t51 .1) in
+      let t52 = none-first _ _ (omega arith) (t54 .1) in
       let t53 = none-first _ _ (omega arith) (t52 .1) in
       let size = both-true _ _ (not-false _ (t50 .0)) in
       record {
@@ -53,6 +58,7 @@ module _ (c : Settings) (llcSnap : Bool) (n : ℕ) (u out : List ℕ) where
         some = leb-true _ _ (size .0);
         most = leb-true _ _ (size .1);
         unit = ltb-false _ _ (t51 .0);
+        ends = ends-at (length u) (unitEnd llcSnap u) (not-false _ (t54 .0));
         limit = ltb-false _ _ (t52 .0);
         room = ltb-false _ _ (t53 .0);
       }

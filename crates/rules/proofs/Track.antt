@@ -15,7 +15,7 @@ use Rattle.rules.specs.declared.Key.{Key}
 use Rattle.rules.specs.declared.State.{State}
 use Rattle.rules.specs.declared.State.the-variants.{Idle, Open}
 use Rattle.rules.specs.Check.{check}
-use Rattle.rules.specs.Section.{sectionNumber, lastSectionNumber, payload}
+use Rattle.rules.specs.Section.{sectionNumber, lastSectionNumber, llcSnapFlag, payload}
 use Rattle.rules.specs.Step.{continues, keyOf, laid, onward}
 use Rattle.rules.specs.Step.{Nowhere, From, fillFrom, room}
 use Rattle.rules.specs.Row.{Event, section}
@@ -27,6 +27,10 @@ use Rattle.rules.proofs.Sound.{sound}
 use Rattle.rules.proofs.Runs.{EndsIn, Same, none, more, only, joined-more, joined-length}
 
 -- ---- what the row theory knows of a section's numbers, of the room and of the buffer
+pub key-flag : (s : List ℕ) → keyOf s .«llc_snap» ≡ llcSnapFlag s
+unfolding keyOf
+key-flag s = refl
+
 pub key-last : (s : List ℕ) → keyOf s .last ≡ lastSectionNumber s
 unfolding keyOf
 key-last s = refl
@@ -42,7 +46,7 @@ pub room-same : (a b : List ℕ) → length a ≡ length b → room a ≡ room b
 unfolding room
 room-same a b p = rw p
 
-laid-take : (f : ℕ) (s b : List ℕ) → f + length (payload s) ≤ length b
+pub laid-take : (f : ℕ) (s b : List ℕ) → f + length (payload s) ≤ length b
     → take (f + length (payload s)) (laid f s b) ≡ take f b ++ payload s
 unfolding laid
 laid-take f s b h =

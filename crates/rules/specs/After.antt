@@ -1,5 +1,5 @@
--- What goes with each number: document 01, 'The receiver', the column 'state after', and what is stored and handed back; 'The sender'.
--- Theorems, shown in proofs/After.antt and proofs/Made.antt.
+-- What goes with each number: document 01, 'The receiver', the column 'state after', and what is stored and handed back; 'The sender';
+-- document 02, request 3. Theorems, shown in proofs/After.antt, proofs/Made.antt and proofs/BufferRead.antt.
 use Prim.Native.Nat.{ℕ, _+_, _-_}
 use mathlib.Core.Path.{_≡_}
 use mathlib.Core.Logic.{_≢_}
@@ -14,15 +14,12 @@ use Rattle.rules.specs.declared.Settings.{Settings}
 use Rattle.rules.specs.declared.State.{State}
 use Rattle.rules.specs.declared.State.the-variants.{Idle, Open}
 use Rattle.rules.specs.Demand2.{Sections}
-use Rattle.rules.specs.Meaning.{filledBefore, GoodState, printed}
+use Rattle.rules.specs.Meaning.{filledBefore, GoodState, joinedUp, printed, stored}
 use Rattle.rules.specs.Send.{sendingLength, sendingNumber, SendOutcome, sentOf}
 use Rattle.rules.specs.Step.{lengthOf, numberOf, Outcome, stepOf}
+use Rattle.rules.specs.UnitEnd.{UnitLength}
 
 -- ---- the receiver
--- what is stored of a section: from byte 12 up to the last four
-abbrev pub stored : List ℕ → List ℕ
-stored s = take (length s - 16) (drop 12 s)
-
 -- the buffer with these bytes at f, and no other byte changed
 abbrev pub storedAt : ℕ → List ℕ → List ℕ → List ℕ
 storedAt f p b = take f b ++ (p ++ drop (f + length p) b)
@@ -38,12 +35,21 @@ pub record ReceiverAfter (σ : State) (s b : List ℕ) (n unit : ℕ) (τ : Stat
   pub kept : n ≡ 1 → let f : ℕ = filledBefore σ (byteAt s 6) in
       (unit ≡ 0) × (τ ≡ runAfter s (f + length (stored s))) × (d ≡ storedAt f (stored s) b)
   pub delivered : n ≡ 0 → let f : ℕ = filledBefore σ (byteAt s 6) in
-      (unit ≡ f + length (stored s)) × (τ ≡ Idle) × (d ≡ storedAt f (stored s) b)
+      UnitLength (eqb (bit 1 (byteAt s 5)) 1) (joinedUp σ s b) unit × (τ ≡ Idle) × (d ≡ storedAt f (stored s) b)
 
 abbrev pub ReceiverGives : Type 0
 ReceiverGives =
     (c : Settings) (σ : State) (s b : List ℕ) → let o : Outcome = stepOf c σ s b in
     ReceiverAfter σ s b (numberOf (o .step .answer)) (lengthOf (o .step .answer)) (o .step .state) (o .buffer)
+
+-- one call reads no more of the buffer than its length and, at number L without LLC/SNAP, the bytes before f, whoever wrote them there:
+-- two buffers that are alike in these are answered alike. Document 02, request 3
+pub record ReadAlike (σ : State) (s b d : List ℕ) : Type 0 where
+  pub size : length b ≡ length d
+  pub before : byteAt s 6 ≡ byteAt s 7 → bit 1 (byteAt s 5) ≡ 0 → let f : ℕ = filledBefore σ (byteAt s 6) in take f b ≡ take f d
+
+abbrev pub BufferRead : Type 0
+BufferRead = (c : Settings) (σ : State) (s b d : List ℕ) → ReadAlike σ s b d → stepOf c σ s b .step ≡ stepOf c σ s d .step
 
 -- a state that the receiver has made is good for the same settings, whatever state it was given: document 02, request 5
 abbrev pub MadeGood : Type 0

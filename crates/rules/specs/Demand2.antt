@@ -58,7 +58,8 @@ pub record Demand2 (c : Settings) (llcSnap : Bool) (size : ℕ) (u bytes : List 
   pub offered : offers bytes ≡ map table3 (sections .values)
   pub arrives : (b : List ℕ) → length u ≤ length b → Arrives c b (map table3 (sections .values)) u
 
--- the bytes that the sender gives do, wherever it accepts: good settings, either flag, any unit, any piece size from 1 to 4,080
+-- the bytes that the sender gives do, wherever it accepts: good settings, any unit with the flag and any IP datagram without it, any piece size
+-- from 1 to 4,080
 abbrev pub RoundTrip : Type 0
 RoundTrip =
     (c : Settings) (llcSnap : Bool) (size : ℕ) (u out : List ℕ) (n : ℕ) → sentOf c llcSnap size u out .sending ≡ Sent n

@@ -12,3 +12,4 @@ pub mod Section
 pub mod Send
 pub mod Sound
 pub mod Step
+pub mod UnitEnd

@@ -1,11 +1,11 @@
--- What each number means, in the papers' order and words: document 01, 'The receiver', 'The sender'; document 02, requests 2, 5 and 7. By
--- bytes, bits and lengths, with none of the receiver's own tests. Theorems, shown in proofs/Meaning.antt and, of request 2, proofs/Split.antt.
+-- What each number means, in the papers' order and words: document 01, 'The receiver', 'The sender'; document 02, requests 2, 3, 5 and 7.
+-- By bytes, bits and lengths, with none of the receiver's own tests. Theorems, shown in proofs/Meaning.antt and, of request 2, proofs/Split.antt.
 use Prim.Native.Nat.{ℕ, zero, suc, _+_, _*_, _-_, _%_, _^_, _≤_, _<_, min}
 use mathlib.Core.Path.{_≡_}
 use mathlib.Core.Logic.{_↔_, _≢_, _⊎_}
 use mathlib.Core.List.{List, [], _∷_, _++_}
-use mathlib.Core.Bool.{Bool}
-use lib.ListN.{length, take}
+use mathlib.Core.Bool.{Bool, false}
+use lib.ListN.{drop, length, take}
 use Rattle.wire.specs.Bytes.{bit, bits, byteAt, numberAt}
 use Rattle.wire.specs.Choice.{pick}
 use Rattle.wire.specs.Meaning.{FirstThat, otherwise, Outside, Row, _means_}
@@ -18,6 +18,7 @@ use Rattle.rules.specs.Check.{check}
 use Rattle.rules.specs.Crc.{crc32}
 use Rattle.rules.specs.Send.{defaultPiece, sendingNumber, sentOf}
 use Rattle.rules.specs.Step.{numberOf, stepOf}
+use Rattle.rules.specs.UnitEnd.{NoDatagram, NotOneDatagram}
 
 -- ---- sections
 -- section_length: the low 12 bits of bytes 1 and 2
@@ -113,6 +114,14 @@ filledBefore σ zero = 0
 filledBefore Idle (suc i) = 0
 filledBefore (Open e f κ) (suc i) = f
 
+-- what is stored of a section: from byte 12 up to the last four
+abbrev pub stored : List ℕ → List ℕ
+stored s = take (length s - 16) (drop 12 s)
+
+-- the payloads of the run, joined up to this section's: what the buffer has before f, whoever wrote it there, and what is stored of s
+abbrev pub joinedUp : State → List ℕ → List ℕ → List ℕ
+joinedUp σ s b = take (filledBefore σ (byteAt s 6)) b ++ stored s
+
 abbrev pub receiverRows : Settings → State → List ℕ → List ℕ → List Row
 receiverRows c σ s b =
     10 means (¬ Good c)
@@ -123,6 +132,7 @@ receiverRows c σ s b =
     ∷ 21 means (c .limit < byteAt s 7 + 1)
     ∷ 22 means ((byteAt s 6 ≢ 0) × (¬ GoesOn σ s))
     ∷ 23 means (min 65535 (length b) < filledBefore σ (byteAt s 6) + (length s - 16))
+    ∷ 25 means ((byteAt s 6 ≡ byteAt s 7) × (bit 1 (byteAt s 5) ≡ 0) × NoDatagram (joinedUp σ s b))
     ∷ 1 means (byteAt s 6 ≢ byteAt s 7)
     ∷ 0 means (byteAt s 6 ≡ byteAt s 7)
     ∷ []))
@@ -139,11 +149,12 @@ pub record CutInto (size : ℕ) (u : List ℕ) (k : ℕ) : Type 0 where
   pub fewest : (j : ℕ) → 1 ≤ j → length u ≤ j * size → k ≤ j
 
 -- a section has its piece of the unit and 16 bytes more
-abbrev pub senderRows : Settings → ℕ → List ℕ → List ℕ → List Row
-senderRows c size u out =
+abbrev pub senderRows : Settings → Bool → ℕ → List ℕ → List ℕ → List Row
+senderRows c llcSnap size u out =
     10 means (¬ Good c)
     ∷ 50 means (Outside 1 4080 size)
     ∷ 51 means (65535 < length u)
+    ∷ 54 means ((llcSnap ≡ false) × NotOneDatagram u)
     ∷ 52 means ((k : ℕ) × CutInto size u k × (c .limit < k))
     ∷ 53 means ((k : ℕ) × CutInto size u k × (length out < length u + 16 * k))
     ∷ 0 means otherwise
@@ -152,10 +163,10 @@ senderRows c size u out =
 abbrev pub SenderMeans : Type 0
 SenderMeans =
     (c : Settings) (llcSnap : Bool) (size : ℕ) (u out : List ℕ) (n : ℕ)
-    → (sendingNumber (sentOf c llcSnap size u out .sending) ≡ n) ↔ FirstThat n (senderRows c size u out)
+    → (sendingNumber (sentOf c llcSnap size u out .sending) ≡ n) ↔ FirstThat n (senderRows c llcSnap size u out)
 
 -- where no piece size is given it is 1,008: document 02, request 7
 abbrev pub DefaultMeans : Type 0
 DefaultMeans =
     (c : Settings) (llcSnap : Bool) (u out : List ℕ) (n : ℕ)
-    → (sendingNumber (sentOf c llcSnap defaultPiece u out .sending) ≡ n) ↔ FirstThat n (senderRows c 1008 u out)
+    → (sendingNumber (sentOf c llcSnap defaultPiece u out .sending) ≡ n) ↔ FirstThat n (senderRows c llcSnap 1008 u out)

@@ -1,4 +1,4 @@
--- What the sender writes and refuses: document 01, 'The sender'.
+-- What the sender writes and refuses: document 01, 'The sender'; document 02, requests 3 and 7.
 use Prim.Native.Nat.{ℕ, zero, suc, _+_, _*_, _-_, _/_, max}
 use mathlib.Core.Path.{_≡_}
 use mathlib.Core.List.{List, [], _∷_, _++_, flatten}
@@ -12,6 +12,7 @@ use Rattle.rules.specs.declared.Sending.{Sending}
 use Rattle.rules.specs.declared.Sending.the-variants.{Sent, Unsent}
 use Rattle.rules.specs.Section.{sectionOf}
 use Rattle.rules.specs.Step.{goodSettings}
+use Rattle.rules.specs.UnitEnd.{endsAt, unitEnd}
 
 -- ---- the answers
 -- the paper's number of an answer
@@ -47,13 +48,14 @@ unfoldable pub sections : Settings → Bool → ℕ → List ℕ → List (List 
 sections c llcSnap n u = sectionsTo c llcSnap n u (sectionCount n u)
 
 -- ---- the refusals, in the paper's order
--- 10: range not 1 to 6, or section limit not 1 to 255; 50: piece size not 1 to 4,080; 51: unit over 65,535; 52: more sections than the
--- limit; 53: output buffer shorter than the sections
+-- 10: range not 1 to 6, or section limit not 1 to 255; 50: piece size not 1 to 4,080; 51: unit over 65,535; 54: it does not end where its
+-- bytes do; 52: more sections than the limit; 53: output buffer shorter than the sections
 unfoldable pub sendLines : Settings → Bool → ℕ → List ℕ → List ℕ → List Line
 sendLines c llcSnap n u out =
     line 10 (not (goodSettings c))
     ∷ line 50 (not (both (leb 1 n) (leb n 4080)))
     ∷ line 51 (ltb 65535 (length u))
+    ∷ line 54 (not (endsAt (length u) (unitEnd llcSnap u)))
     ∷ line 52 (ltb (c .limit) (sectionCount n u))
     ∷ line 53 (ltb (length out) (length (flatten (sections c llcSnap n u))))
     ∷ []

@@ -1,10 +1,10 @@
--- What one section does to the receiver: document 01, 'The receiver'; document 02, request 5. The answer, the state after and the buffer
--- after.
+-- What one section does to the receiver: document 01, 'The receiver'; document 02, requests 3 and 5. The answer, the state after and the
+-- buffer after.
 use Prim.Native.Nat.{ℕ, _+_, _*_, min}
 use mathlib.Core.Path.{_≡_}
-use mathlib.Core.List.{List, [], _∷_}
+use mathlib.Core.List.{List, [], _∷_, _++_}
 use mathlib.Core.Bool.{Bool, true, not, Bool·beq}
-use lib.ListN.{length}
+use lib.ListN.{length, take}
 use lib.Seq.{paste}
 use lib.Dec.{ltb, leb, eqb}
 use Rattle.wire.specs.Choice.{pick, both, Line, line, firstOf}
@@ -13,11 +13,14 @@ use Rattle.rules.specs.declared.State.{State}
 use Rattle.rules.specs.declared.State.the-variants.{Idle, Open}
 use Rattle.rules.specs.declared.Answer.{Answer}
 use Rattle.rules.specs.declared.Answer.the-variants.{Delivered, Stored, PassedBy, Refused}
+use Rattle.rules.specs.declared.End.{End}
+use Rattle.rules.specs.declared.End.the-variants.{At, NoEnd}
 use Rattle.rules.specs.declared.Step.{Step}
 use Rattle.rules.specs.declared.Key.{Key}
 use Rattle.rules.specs.Address.{sameAddress}
 use Rattle.rules.specs.Check.{checkLines}
 use Rattle.rules.specs.Section.{address, payloadScramblingControl, llcSnapFlag, sectionNumber, lastSectionNumber, payload}
+use Rattle.rules.specs.UnitEnd.{unitEnd}
 
 -- ---- the answers
 -- the paper's number of an answer
@@ -124,15 +127,24 @@ refuseFirst lines b o = pick (eqb (firstOf lines) 0) o (refuse (firstOf lines) b
 unfoldable pub laid : ℕ → List ℕ → List ℕ → List ℕ
 laid f s b = paste b f (payload s) (length (payload s))
 
--- the unit is delivered with the length that is filled
-unfoldable pub finish : ℕ → List ℕ → Outcome
-finish filled b = outcome (Delivered filled) Idle b
+-- what is filled of the buffer, and the payload after it
+unfoldable pub joinedWith : ℕ → List ℕ → List ℕ → List ℕ
+joinedWith f s b = take f b ++ payload s
 
--- stored; after number L the unit is finished, else the run is open
+-- the unit is delivered up to its end, and the buffer is as `after` has it; 25: there is no end, and nothing is stored
+unfoldable pub upTo : End → List ℕ → List ℕ → Outcome
+upTo (At n) b after = outcome (Delivered n) Idle after
+upTo NoEnd b after = refuse 25 b
+
+-- the payload is the unit's last part, and what is after the unit's end stays in the buffer
+unfoldable pub finish : ℕ → List ℕ → List ℕ → Outcome
+finish f s b = upTo (unitEnd (llcSnapFlag s) (joinedWith f s b)) b (laid f s b)
+
+-- number L finishes the unit; any other is stored, and the run is open
 unfoldable pub keep : ℕ → List ℕ → List ℕ → Outcome
 keep f s b =
     pick (eqb (sectionNumber s) (lastSectionNumber s))
-    (finish (f + length (payload s)) (laid f s b))
+    (finish f s b)
     (outcome Stored (Open (sectionNumber s + 1) (f + length (payload s)) (keyOf s)) (laid f s b))
 
 -- 22: neither number 0 nor the right continuation; 23: f and the payload are above the room
@@ -140,7 +152,7 @@ unfoldable pub lay : Fill → List ℕ → List ℕ → Outcome
 lay Nowhere s b = refuse 22 b
 lay (From f) s b = pick (leb (f + length (payload s)) (room b)) (keep f s b) (refuse 23 b)
 
--- the table of document 01, line by line: 10, 11, 12 to 19 with 24 among them, 2, 20, 21, then 22, 23, 1, 0
+-- the table of document 01, line by line: 10, 11, 12 to 19 with 24 among them, 2, 20, 21, then 22, 23, 25, 1, 0
 unfoldable pub stepOf : Settings → State → List ℕ → List ℕ → Outcome
 stepOf c σ s b =
     refuseFirst (setupLines c σ) b

@@ -54,6 +54,12 @@ pub struct Step {
     pub state: State,
 }
 
+// Where a unit ends: after so many of the joined bytes, or, where these are no unit, nowhere.
+pub enum End {
+    At(usize),
+    NoEnd,
+}
+
 // What a sender answers: the bytes that it wrote, or the number of its refusal.
 pub enum Sending {
     Sent(usize),

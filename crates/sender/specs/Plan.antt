@@ -10,7 +10,7 @@ use Rattle.rules.specs.Send.{sectionCount, sendLines}
 use Rattle.sender.specs.declared.Plan.{Plan}
 use Rattle.sender.specs.declared.Plan.the-variants.{Refused, Cut}
 
--- a refusal by the first line that applies, or none, and the number of the sections; the LLC_SNAP_flag decides nothing
-abbrev pub Planned : Settings → ℕ → List ℕ → List ℕ → Plan → Type 0
-Planned c n u out (Refused r) = (r ≢ 0) × ((llcSnap : Bool) → r ≡ firstOf (sendLines c llcSnap n u out))
-Planned c n u out (Cut count) = (count ≡ sectionCount n u) × ((llcSnap : Bool) → firstOf (sendLines c llcSnap n u out) ≡ 0)
+-- a refusal by the first line that applies, or none, and the number of the sections
+abbrev pub Planned : Settings → Bool → ℕ → List ℕ → List ℕ → Plan → Type 0
+Planned c llcSnap n u out (Refused r) = (r ≢ 0) × (r ≡ firstOf (sendLines c llcSnap n u out))
+Planned c llcSnap n u out (Cut count) = (count ≡ sectionCount n u) × (firstOf (sendLines c llcSnap n u out) ≡ 0)

@@ -1,7 +1,10 @@
-// The sender of document 01: cuts a unit into sections, which stand back to back from the start of the output, or refuses it.
+// The sender of document 01, and document 02, requests 3 and 7: cuts a unit into sections, which stand back to back from the start of the
+// output, or refuses it.
 use rules::Address;
+use rules::End;
 use rules::Sending;
 use rules::Settings;
+use unit_end::unit_end;
 use wire::both;
 use wire::put;
 ghost use mathlib.Core.List.{flatten};
@@ -13,6 +16,7 @@ ghost use Rattle.wire.specs.Bytes.{Reads};
 ghost use Rattle.wire.specs.Choice.{both, firstOf};
 ghost use Rattle.rules.specs.Section.{sectionOf};
 ghost use Rattle.rules.specs.Send.{sectionCount, sections, sendLines, sentOf, defaultPiece, Sends};
+ghost use Rattle.rules.specs.UnitEnd.{endsAt, unitEnd};
 ghost use Rattle.wire.specs.Puts.{Puts};
 ghost use Rattle.sender.specs.Plan.{Planned};
 
@@ -20,6 +24,16 @@ fn size_good(size: usize) -> bool
     ensures { λ r. ⌜ r ≡ both (leb 1 size) (leb size 4080) ⌝ }
 {
     both(1 <= size, size <= 4080)
+}
+
+// The unit ends where its bytes do: without LLC/SNAP it is one IP datagram.
+fn whole(llc_snap: bool, unit: &[u8]) -> bool
+    ensures { λ r. ⌜ r ≡ endsAt (length (now (unit .entry))) (unitEnd «llc_snap» (now (unit .entry))) ⌝ }
+{
+    let End::At(n) = unit_end(llc_snap, &unit[..0], unit) else {
+        return false;
+    };
+    n == unit.len()
 }
 
 // How many sections a unit needs that 50 and 51 leave.
@@ -40,9 +54,9 @@ enum Plan {
     Cut(usize),
 }
 
-// The first of 10 and 50 to 53 that applies. Sections are counted only where 50 and 51 leave numbers that fit.
-fn decide(settings: Settings, size: usize, unit: &[u8], out: &[u8]) -> Plan
-    ensures { λ r. ⌜ Planned settings size (now (unit .entry)) (now (out .entry)) r ⌝ }
+// The first of 10 and 50 to 54 that applies. Sections are counted only where 50 and 51 leave numbers that fit.
+fn decide(settings: Settings, llc_snap: bool, size: usize, unit: &[u8], out: &[u8]) -> Plan
+    ensures { λ r. ⌜ Planned settings «llc_snap» size (now (unit .entry)) (now (out .entry)) r ⌝ }
 {
     if !settings::good_settings(settings) {
         return Plan::Refused(10);
@@ -52,6 +66,9 @@ fn decide(settings: Settings, size: usize, unit: &[u8], out: &[u8]) -> Plan
     }
     if 65535 < unit.len() {
         return Plan::Refused(51);
+    }
+    if !whole(llc_snap, unit) {
+        return Plan::Refused(54);
     }
     let count = section_count(size, unit);
     if settings.limit < count {
@@ -114,7 +131,7 @@ fn put_sections(
 pub fn send(settings: Settings, llc_snap: bool, size: usize, unit: &[u8], out: &mut [u8]) -> Sending
     ensures { λ r. ⌜ Sends (sentOf settings «llc_snap» size (now (unit .entry)) (now (out .entry))) r (now (out .exit)) ⌝ }
 {
-    match decide(settings, size, unit, out) {
+    match decide(settings, llc_snap, size, unit, out) {
         Plan::Refused(number) => Sending::Unsent(number),
         Plan::Cut(count) => Sending::Sent(put_sections(settings, llc_snap, size, count, unit, out)),
     }

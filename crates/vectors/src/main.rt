@@ -67,9 +67,14 @@ fn print_number(n: usize) {
 }
 
 // A line of the sender: unit length, piece size, number of sections, their length in all.
-fn send_line(size: usize, unit: &[u8], out: &mut [u8]) {
-    let Sending::Sent(total) = sender::send(recording::listing_settings(), false, size, unit, out)
-    else {
+fn send_line(llc_snap: bool, size: usize, unit: &[u8], out: &mut [u8]) {
+    let Sending::Sent(total) = sender::send(
+        recording::listing_settings(),
+        llc_snap,
+        size,
+        unit,
+        out,
+    ) else {
         return;
     };
     print(b"send");
@@ -119,14 +124,23 @@ fn aal5_lines() {
     crc_line(b"aal5-counting", &counting);
 }
 
-fn main() {
-    let unit = [0; 4081];
+// The samples of document 01: a unit of 4,081 bytes, which is an IPv4 datagram of that total length, and the empty unit, which only
+// LLC/SNAP can carry (document 02, request 3).
+fn send_lines() {
+    let mut unit = [0; 4081];
+    unit[0] = 0x45;
+    unit[2] = 0x0f;
+    unit[3] = 0xf1;
     let mut out = [0; 5000];
+    send_line(false, 4080, &unit, &mut out);
+    send_line(true, 4080, &unit[..0], &mut out);
+}
+
+fn main() {
     // The start value, and the check value of CRC-32/MPEG-2 in Cook's catalogue of parametrised CRC algorithms.
-    crc_line(b"empty", &unit[..0]);
+    crc_line(b"empty", b"");
     crc_line(b"123456789", b"123456789");
     table_lines();
     aal5_lines();
-    send_line(4080, &unit, &mut out);
-    send_line(4080, &unit[..0], &mut out);
+    send_lines();
 }

@@ -18,7 +18,7 @@ put-sections-requires : tie.Need-put-sections-requires
 put-sections-requires c κs =
     let d = c .before .before .before .before in
     let plan = rw (c .before .before .count .given .1) at (d .decide .ensures) in
-    (plan .1 (d .before .before .before .before .args .llc-snap), plan .0)
+    (plan .1, plan .0)
 
 same-length : tie.Need-same-length
 same-length c = search needs
@@ -28,7 +28,7 @@ returns c =
     let d = c .before .before .before in
     let a = d .before .before .before .before .args in
     let plan = rw (c .before .number .given .1) at (d .decide .ensures) in
-    refused (a .settings) (a .llc-snap) (a .size) (now (a .unit)) (now (a .out)) (plan .1 (a .llc-snap)) (plan .0)
+    refused (a .settings) (a .llc-snap) (a .size) (now (a .unit)) (now (a .out)) (plan .1) (plan .0)
 
 same-length-2 : tie.Need-same-length-2
 same-length-2 c = search needs
@@ -39,7 +39,7 @@ returns-2 c =
     let d = k .before .before in
     let a = d .before .before .before .before .args in
     let plan = rw (k .count .given .1) at (d .decide .ensures) in
-    sent (a .settings) (a .llc-snap) (a .size) (now (a .unit)) (now (a .out)) (plan .1 (a .llc-snap)) (c .before .before .put-sections .ensures)
+    sent (a .settings) (a .llc-snap) (a .size) (now (a .unit)) (now (a .out)) (plan .1) (c .before .before .put-sections .ensures)
 
 pub send-spec : {M : Type 1} → statement M
 send-spec =

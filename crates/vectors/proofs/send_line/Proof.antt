@@ -1,7 +1,6 @@
 -- What the sender gives is within the output.
 use native.Mathlib.Omega.{arith}
 use mathlib.Core.Path.{sym}
-use mathlib.Core.Bool.{false}
 use lib.Seq.{length-take-le}
 use denote.Ref.{now}
 use Rattle.wire.proofs.Choice.{was}
@@ -46,7 +45,7 @@ slice-reshare-prefix-offer-count c =
     let at = total .before .before .before .before in
     let a = at .before .before .before .before .before .args in
     let sent = was (at .send .ensures .sending) (total .total .given .1) in
-    omega (arith, sent-all-fits _ false (a .size) (now (a .unit)) (now (a .out)) _ sent)
+    omega (arith, sent-all-fits _ (a .llc-snap) (a .size) (now (a .unit)) (now (a .out)) _ sent)
 
 slice-aggregate-offer-count : tie.Need-slice-aggregate-offer-count
 slice-aggregate-offer-count c = sym (length-take-le _ _ (slice-reshare-prefix-offer-count (c .before)))
