@@ -133,7 +133,9 @@ pub(crate) fn check(section: &[u8]) -> u8 {
     unsafe { fossknut_check(section.as_ptr(), section.len()) }
 }
 
-/// The answer's number, and the length of the unit.
+/// The answer's number, and the length of the unit. At the last number of a run without LLC/SNAP both
+/// depend on what `buffer` holds before the filled length: it has to be the buffer with which the
+/// state was made.
 pub(crate) fn receive(
     settings: &Settings,
     state: &mut State,

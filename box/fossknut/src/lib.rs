@@ -24,6 +24,22 @@
 //!     "15: section_syntax_indicator and private_indicator equal"
 //! );
 //! ```
+//!
+//! # Units
+//!
+//! A unit is what a run of sections carries. With the LLC_SNAP_flag it is all of their payloads
+//! joined, whatever these are. Without it they have to begin with a whole IP datagram, and the unit
+//! ends where its header says:
+//!
+//! | version (byte 0, bits 7 to 4) | length of the unit | at least |
+//! |---|---|---|
+//! | 4 (RFC 791) | the total length, bytes 2 and 3 | 20 |
+//! | 6 (RFC 8200) | 40 and the payload length, bytes 4 and 5 | 40 |
+//!
+//! What stands after it is stuffing. Nothing else of the header is looked at, neither its own length
+//! nor its checksum. A [`Receiver`] hands over the unit without the stuffing, and refuses with
+//! [`Refusal::IpHeader`] what does not begin so; [`send`] takes a unit only without stuffing, and
+//! refuses any other with [`Refusal::IpDatagram`].
 
 #![deny(missing_docs, unsafe_code)]
 

@@ -6,9 +6,15 @@ use crate::{Refusal, Settings};
 /// Joins the payloads of sections to units (datagrams), and hands over a unit when it is whole.
 ///
 /// It is given every section in the order of arrival, those for other addresses too, and a
-/// [gap notice](Receiver::gap) where sections were lost. `B` is the memory in which a unit is
-/// joined: a slice that is lent, an array, a vector. A unit has up to 65,535 bytes; of a longer
-/// buffer the rest is never touched.
+/// [gap notice](Receiver::gap) where sections were lost. `B` is the memory in which payloads are
+/// joined: a slice that is lent, an array, a vector. They have up to 65,535 bytes, stuffing among
+/// them; of a longer buffer the rest is never touched.
+///
+/// Where a unit ends the [crate's page](crate#units) says. All of the payloads are written to the
+/// buffer and stay there; handed over is the unit alone, without the stuffing after it. The last
+/// section decides by the IP header, of which earlier ones may have left a part in the buffer. So the
+/// answer depends on what the buffer holds: while a unit is open nobody else may write there, and `B`
+/// has to give the same bytes at each call.
 ///
 /// A unit belongs to one full address. Where the [range](Settings::range) is below 6, the sections of
 /// sisters are taken too, addresses that are the own where compared: number 0 of any of them starts a
@@ -17,6 +23,10 @@ use crate::{Refusal, Settings};
 ///
 /// ```
 /// use fossknut::{Answer, Receiver, Refusal, Settings};
+///
+/// /// An IPv4 datagram: bytes 2 and 3 say that it has 28.
+/// const DATAGRAM: &[u8] = b"\x45\x00\x00\x1C\x00\x00\x00\x00\x40\xFD\xF5\xE1\
+///                           \xC0\x00\x02\x01\xC0\x00\x02\x02Fossknut";
 ///
 /// /// A section for 02:00:5E:10:20:30, one of two.
 /// fn section(number: u8, payload: &[u8]) -> Vec<u8> {
@@ -32,13 +42,21 @@ use crate::{Refusal, Settings};
 /// let settings = Settings { address, range: 6, limit: 16 };
 /// let mut receiver = Receiver::new(settings, [0; 65_535]);
 ///
-/// assert_eq!(receiver.receive(&section(0, b"Foss")), Answer::Stored);
-/// assert_eq!(receiver.receive(&section(1, b"knut")), Answer::Delivered(b"Fossknut"));
+/// let (first, rest) = DATAGRAM.split_at(3);
+/// assert_eq!(receiver.receive(&section(0, first)), Answer::Stored);
+/// assert_eq!(receiver.receive(&section(1, rest)), Answer::Delivered(DATAGRAM));
 ///
-/// assert_eq!(receiver.receive(&section(0, b"Foss")), Answer::Stored);
+/// let stuffed = [rest, &[0xFF; 9]].concat();
+/// assert_eq!(receiver.receive(&section(0, first)), Answer::Stored);
+/// assert_eq!(receiver.receive(&section(1, &stuffed)), Answer::Delivered(DATAGRAM));
+///
+/// let cut = &rest[..rest.len() - 1];
+/// assert_eq!(receiver.receive(&section(0, first)), Answer::Stored);
+/// assert_eq!(receiver.receive(&section(1, cut)), Answer::Refused(Refusal::IpHeader));
+///
+/// assert_eq!(receiver.receive(&section(0, first)), Answer::Stored);
 /// receiver.gap();
-/// let answer = receiver.receive(&section(1, b"knut"));
-/// assert_eq!(answer, Answer::Refused(Refusal::Continuation));
+/// assert_eq!(receiver.receive(&section(1, rest)), Answer::Refused(Refusal::Continuation));
 /// ```
 #[derive(Clone, Debug)]
 pub struct Receiver<B> {
@@ -51,13 +69,14 @@ pub struct Receiver<B> {
 #[derive(Clone, Copy, Debug, PartialEq, Eq, Hash)]
 #[must_use]
 pub enum Answer<'a> {
-    /// 0: the section was the last of a unit, which is here, whole.
+    /// 0: the section was the last of a unit, which is here: whole, and nothing after it.
     Delivered(&'a [u8]),
     /// 1: the section's payload is stored, and more of the unit has to come.
     Stored,
     /// 2: the section is for another address, and nothing has changed.
     PassedBy,
-    /// The section is refused, and what was stored of an open unit is forgotten.
+    /// The section is refused, nothing of it is stored, and what was stored of an open unit is
+    /// forgotten.
     Refused(Refusal),
 }
 
@@ -112,7 +131,7 @@ impl<B: AsMut<[u8]>> Receiver<B> {
         &self.settings
     }
 
-    /// The buffer, with the bytes that the last units have left in it.
+    /// The buffer, with the bytes that the last payloads have left in it.
     pub fn into_buffer(self) -> B {
         self.buffer
     }

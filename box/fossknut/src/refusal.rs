@@ -60,9 +60,10 @@ macro_rules! refusals {
 }
 
 refusals! {
-    /// Why a section is not taken, 10 to 24, or a unit not sent, 10 and 50 to 53: the first that
+    /// Why a section is not taken, 10 to 25, or a unit not sent, 10 and 50 to 54: the first that
     /// applies. 24 stands at 15's place, before 16: a section in the checksum form of ISO/IEC
-    /// 13818-6 has no CRC_32, and its last four bytes are not looked at.
+    /// 13818-6 has no CRC_32, and its last four bytes are not looked at. 54 stands before 52: what it
+    /// and 25 ask of a unit the [crate's page](crate#units) says.
     ///
     /// Prints as its number and meaning:
     ///
@@ -92,9 +93,11 @@ refusals! {
         Continuation = 22, "neither number 0 nor the right continuation";
         Room = 23, "filled length and payload above room";
         ChecksumForm = 24, "checksum form: section_syntax_indicator 0, private_indicator 1";
+        IpHeader = 25, "no LLC/SNAP, and the joined payloads do not begin with a whole IP datagram";
         PieceSize = 50, "piece size not 1..4,080";
         Unit = 51, "unit over 65,535";
         Sections = 52, "more sections than the limit";
         Output = 53, "output buffer shorter than the sections";
+        IpDatagram = 54, "no LLC/SNAP, and the unit is not exactly one IP datagram";
     }
 }

@@ -9,18 +9,23 @@ use crate::{Refusal, Settings};
 /// Each section carries `piece_size` bytes of the unit, 1 to 4,080, the last one the rest, and has 16
 /// bytes beside them. Without a piece size it is 1,008: then no section has more than 1,024 bytes,
 /// which is what the field boxes of the second series hold, and a unit of more than 1,008 bytes for
-/// each section of the limit (16,128 with a limit of 16) is refused with [`Refusal::Sections`]. An
-/// empty unit is sent, too: as one section without payload. `llc_snap` says that the unit begins
-/// with an LLC/SNAP header; it is not looked at here.
+/// each section of the limit (16,128 with a limit of 16) is refused with [`Refusal::Sections`].
+///
+/// `llc_snap` says that the unit begins with an LLC/SNAP header, which is not looked at here: any
+/// bytes are sent, none at all as one section without payload. Without it the unit has to be exactly
+/// one IP datagram, as long as [its header says](crate#units).
 ///
 /// The bytes of `output` after the sections stay as they were.
 ///
 /// ```
-/// use fossknut::{Answer, Receiver, Settings};
+/// use fossknut::{Answer, Receiver, Refusal, Settings};
 ///
 /// let address = [0x02, 0x00, 0x5E, 0x10, 0x20, 0x30];
 /// let settings = Settings { address, range: 6, limit: 16 };
-/// let unit = [0x55; 1_009];
+/// // An IPv4 datagram: bytes 2 and 3 say that it has 1,009, which is 0x03F1.
+/// let header = b"\x45\x00\x03\xF1\x00\x00\x00\x00\x40\xFD\xF2\x0C\
+///                \xC0\x00\x02\x01\xC0\x00\x02\x02";
+/// let unit = [&header[..], &[0x55; 989]].concat();
 /// let mut output = [0; 1_100];
 /// let length = fossknut::send(&settings, false, None, &unit, &mut output)?;
 /// assert_eq!(length, 1_024 + 17);
@@ -32,12 +37,19 @@ use crate::{Refusal, Settings};
 /// // In one section, by a size that is given.
 /// let length = fossknut::send(&settings, false, Some(4_080), &unit, &mut output)?;
 /// assert_eq!(length, 1_025);
+///
+/// // A byte more than the header says, or less.
+/// for unit in [&[&unit[..], b"!"].concat(), &unit[..1_008]] {
+///     let refusal = fossknut::send(&settings, false, None, unit, &mut output);
+///     assert_eq!(refusal, Err(Refusal::IpDatagram));
+/// }
 /// # Ok::<(), fossknut::Refusal>(())
 /// ```
 ///
 /// # Errors
 ///
-/// The first of the refusals 10 and 50 to 53 that applies; `output` is as it was.
+/// The first that applies of the refusals 10, 50, 51, 54, 52 and 53, in this order; `output` is as it
+/// was.
 ///
 /// # Panics
 ///
