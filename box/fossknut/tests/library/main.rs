@@ -9,10 +9,12 @@ mod ffi;
 mod guarded;
 mod notification;
 mod numbers;
+mod pair;
 mod pes;
 mod receiver;
 mod refusal;
 mod sender;
+mod unit_end;
 
 use fossknut::{Refusal, Settings};
 use guarded::Guarded;

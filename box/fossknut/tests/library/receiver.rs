@@ -1,90 +1,17 @@
 //! The receiver, and the rows of demand 3.
 
 use crate::guarded::Guarded;
+use crate::pair::Memory;
 use crate::{ffi, numbers};
 use fossknut::Answer;
+use second::generator::datagrams::{any_datagram, bare_ipv4, going_on, udp_over_ipv4};
 use second::generator::rows::{any_row, any_state, bad_settings, good_settings, nearly_continuing};
-use second::generator::sound;
+use second::generator::{sound, with_byte};
 use second::random::Random;
 use second::receiver::{Receiver, Run, Settings};
 use second::row::{whole_runs, Event};
 use second::tally::Tally;
 use second::telling;
-
-/// Guarded memory for a receiver: one for its buffer, one for the sections.
-struct Memory {
-    buffer: Guarded,
-    section: Guarded,
-}
-
-impl Memory {
-    fn new() -> Self {
-        Self {
-            buffer: Guarded::new(),
-            section: Guarded::new(),
-        }
-    }
-
-    /// The library's receiver and the second program's, with equal buffers.
-    fn pair(&mut self, second: Receiver) -> Pair<'_> {
-        Pair {
-            settings: numbers::settings(&second.settings),
-            state: numbers::state(second.state),
-            buffer: self.buffer.at_end(&second.buffer),
-            section: &mut self.section,
-            second,
-        }
-    }
-}
-
-/// Two receivers that are given the same, and have to do the same.
-struct Pair<'a> {
-    settings: fossknut::Settings,
-    state: ffi::State,
-    buffer: &'a mut [u8],
-    section: &'a mut Guarded,
-    second: Receiver,
-}
-
-impl Pair<'_> {
-    /// Number and length, on which both agree, as they do on state and buffer.
-    fn receive(&mut self, bytes: &[u8]) -> (u8, usize) {
-        let section = if bytes.len() % 2 == 0 {
-            self.section.at_end(bytes)
-        } else {
-            self.section.at_start(bytes)
-        };
-        let answer = ffi::receive(&self.settings, &mut self.state, section, self.buffer);
-        assert!(section == bytes, "the call changed its input");
-        let expected = self.second.receive(bytes);
-        assert_eq!(answer, (expected.number, expected.length), "{bytes:02X?}");
-        self.assert_equal();
-        answer
-    }
-
-    fn gap(&mut self) {
-        ffi::gap(&mut self.state);
-        self.second.gap();
-        self.assert_equal();
-    }
-
-    fn assert_equal(&self) {
-        assert_eq!(self.state, numbers::state(self.second.state));
-        assert!(self.buffer == self.second.buffer, "the buffers differ");
-    }
-
-    /// The answers to all sections of a row; a gap notice gets none.
-    fn row(&mut self, events: &[Event]) -> Vec<(u8, usize)> {
-        let mut answers = Vec::new();
-        for event in events {
-            match event {
-                Event::Section(bytes) => answers.push(self.receive(bytes)),
-                Event::Gap => self.gap(),
-            }
-        }
-        answers
-    }
-}
 
 #[test]
 fn telling_inputs() {
@@ -113,7 +40,7 @@ fn random_rows() {
             tally.count(number);
         }
     }
-    tally.assert_all((0..=2).chain(12..=24), 200);
+    tally.assert_all((0..=2).chain(12..=25), 200);
 }
 
 /// The wrapper beside demand 3 told over the whole row.
@@ -144,9 +71,21 @@ fn random_rows_by_the_wrapper() {
     assert!(delivered > 20_000, "{delivered}");
 }
 
-fn short_nearly_continuing(random: &mut Random, settings: &Settings, run: &Run) -> Vec<u8> {
-    let payload_length = random.pick(&[0, 1, 1, 2, 3, 50]);
-    nearly_continuing(random, settings, run, payload_length)
+/// Few bytes that go on with what is held of a unit.
+fn few_bytes(random: &mut Random, held: &[u8]) -> Vec<u8> {
+    let length = random.pick(&[0, 1, 1, 2, 3, 50]);
+    going_on(random, held, length)
+}
+
+/// A buffer that mostly begins with a datagram: often there is hardly any room after what is filled.
+fn nearly_filled(random: &mut Random, filled: usize) -> Vec<u8> {
+    let near = filled.min(66_000) + random.pick(&[0, 1, 1, 2, 3, 50]);
+    let length = match random.below(32) {
+        0 => near + random.below(3),
+        _ if near < 300 => (near + random.below(3)).saturating_sub(1),
+        _ => random.below(60),
+    };
+    going_on(random, &[], length)
 }
 
 #[test]
@@ -161,17 +100,13 @@ fn settings_and_states_of_any_value() {
             good_settings(&mut random)
         };
         let run = any_state(&mut random, &settings);
-        let section = short_nearly_continuing(&mut random, &settings, &run);
-        let near = run.filled.min(66_000) + section.len().saturating_sub(16);
-        let length = match random.below(32) {
-            0 => near + random.below(3),
-            _ if near < 300 => (near + random.below(3)).saturating_sub(1),
-            _ => random.below(60),
-        };
+        let buffer = nearly_filled(&mut random, run.filled);
+        let payload = few_bytes(&mut random, &buffer[..run.filled.min(buffer.len())]);
+        let section = nearly_continuing(&mut random, &settings, &run, &payload);
         let mut pair = memory.pair(Receiver {
             settings,
             state: (!random.one_in(8)).then_some(run),
-            buffer: vec![random.byte(); length],
+            buffer,
         });
         // READINGS A12: any number but 0 is a 1.
         let any_1 = random.pick(&[1, 2, 128, 255]);
@@ -179,7 +114,7 @@ fn settings_and_states_of_any_value() {
         pair.state.run *= any_1;
         tally.count(pair.receive(&section).0);
     }
-    tally.assert_all((0..=2).chain(10..=24), 20);
+    tally.assert_all((0..=2).chain(10..=25), 20);
 }
 
 /// READINGS B12: what an idle state has beside its `run` means nothing, and is given back as zeros.
@@ -190,7 +125,8 @@ fn idle_with_any_bytes() {
     for _ in 0..2_000 {
         let settings = good_settings(&mut random);
         let run = any_state(&mut random, &settings);
-        let section = short_nearly_continuing(&mut random, &settings, &run);
+        let payload = few_bytes(&mut random, &[]);
+        let section = nearly_continuing(&mut random, &settings, &run, &payload);
         let mut pair = memory.pair(Receiver::new(settings, vec![0; 100]));
         pair.state = ffi::State {
             run: 0,
@@ -275,8 +211,8 @@ fn every_bit_at_every_range(seed: u64, mut with: impl FnMut(Settings, [u8; 6], b
 fn every_bit_of_the_address_at_every_range() {
     let mut memory = Memory::new();
     every_bit_at_every_range(6, |settings, address, compared| {
-        let mut pair = memory.pair(Receiver::new(settings, vec![0; 4]));
-        let (number, _) = pair.receive(&sound(address, 0, 0, b"knut"));
+        let mut pair = memory.pair(Receiver::new(settings, vec![0; 20]));
+        let (number, _) = pair.receive(&sound(address, 0, 0, &bare_ipv4(20)));
         assert_eq!(number, if compared { 2 } else { 0 }, "{settings:?}");
     });
 }
@@ -297,9 +233,9 @@ fn every_bit_of_the_kept_address_at_every_range() {
         for (of, number) in [(settings.address, 22), (address, 0)] {
             let mut pair = memory.pair(Receiver {
                 state: Some(run),
-                ..Receiver::new(settings, vec![0; 4])
+                ..Receiver::new(settings, vec![0; 20])
             });
-            let (answer, _) = pair.receive(&sound(of, 1, 1, b"knut"));
+            let (answer, _) = pair.receive(&sound(of, 1, 1, &bare_ipv4(20)));
             assert_eq!(answer, if compared { 11 } else { number }, "{settings:?}");
         }
     });
@@ -352,7 +288,7 @@ fn the_longest_units() {
         (257, 65_535, 65_535, (0, 65_535)),
         (258, 65_536, 65_536, (23, 0)),
     ] {
-        let unit = random.bytes(unit_length);
+        let unit = any_datagram(&mut random, unit_length);
         let last_section_number = (unit_length - 1) / piece_size;
         let mut pair = memory.pair(Receiver::new(settings, vec![0x5A; buffer_length]));
         for (number, piece) in unit.chunks(piece_size).enumerate() {
@@ -381,22 +317,21 @@ fn the_wrapper_by_any_memory() {
         range: 6,
         limit: 1,
     };
-    let section = sound(ours.address, 0, 0, b"knut");
-    let mut lent = [0; 5];
+    let datagram = udp_over_ipv4(b"knut");
+    let section = sound(ours.address, 0, 0, &datagram);
+    let mut lent = [0; 33];
     let mut receiver = fossknut::Receiver::new(ours, &mut lent[..]);
-    assert_eq!(receiver.receive(&section), Answer::Delivered(b"knut"));
+    assert_eq!(receiver.receive(&section), Answer::Delivered(&datagram));
     assert_eq!(receiver.receive(&section).number(), 0);
     assert_eq!(receiver.settings(), &ours);
-    assert_eq!(lent, *b"knut\0");
-    let mut receiver = fossknut::Receiver::new(ours, vec![0; 3]);
+    assert_eq!(lent[..], [&datagram[..], &[0]].concat());
+    let mut receiver = fossknut::Receiver::new(ours, vec![0; 31]);
     assert_eq!(receiver.receive(&section).number(), 23);
     assert_eq!(receiver.receive(&[]).number(), 12);
-    assert_eq!(receiver.into_buffer(), [0; 3]);
+    assert_eq!(receiver.into_buffer(), [0; 31]);
     let mut receiver = fossknut::Receiver::new(ours, []);
-    assert_eq!(
-        receiver.receive(&sound(ours.address, 0, 0, &[])),
-        Answer::Delivered(&[])
-    );
+    let empty = with_byte(&sound(ours.address, 0, 0, &[]), 5, 0xC3); // LLC/SNAP
+    assert_eq!(receiver.receive(&empty), Answer::Delivered(&[]));
     let others = receiver.receive(&sound([0; 6], 0, 1, &[]));
     assert_eq!((others, others.number()), (Answer::PassedBy, 2));
 }

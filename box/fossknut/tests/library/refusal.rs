@@ -15,7 +15,7 @@ macro_rules! numbers {
 
 #[test]
 fn each_number_of_the_papers_has_one_refusal() {
-    let sections: Vec<u8> = (10..=24).chain(50..=53).collect();
+    let sections: Vec<u8> = (10..=25).chain(50..=54).collect();
     assert_eq!(numbers!(Refusal), sections);
     let notifications: Vec<u8> = (12..=18).chain(30..=33).collect();
     assert_eq!(numbers!(notification::Refusal), notifications);
@@ -29,4 +29,6 @@ fn the_text_is_the_number_and_the_meaning() {
     assert_eq!(error.to_string(), text);
     let text = "24: checksum form: section_syntax_indicator 0, private_indicator 1";
     assert_eq!(Refusal::ChecksumForm.to_string(), text);
+    let text = "54: no LLC/SNAP, and the unit is not exactly one IP datagram";
+    assert_eq!(Refusal::IpDatagram.to_string(), text);
 }

@@ -3,6 +3,7 @@
 use crate::guarded::Guarded;
 use crate::{ffi, numbers};
 use fossknut::{Answer, Refusal};
+use second::generator::datagrams::{any_datagram, bare_ipv4};
 use second::generator::rows::{bad_settings, good_settings};
 use second::generator::{subsets, OURS};
 use second::random::Random;
@@ -14,11 +15,11 @@ use second::telling;
 const PATTERN: u8 = 0xA5;
 
 /// One call of the sender.
-struct Call<'a> {
-    settings: Settings,
-    llc_snap: u8,
-    piece_size: Option<usize>,
-    unit: &'a [u8],
+pub(crate) struct Call<'a> {
+    pub(crate) settings: Settings,
+    pub(crate) llc_snap: u8,
+    pub(crate) piece_size: Option<usize>,
+    pub(crate) unit: &'a [u8],
 }
 
 impl Call<'_> {
@@ -38,13 +39,13 @@ impl Call<'_> {
 }
 
 /// Guarded memory for a sender: one for its output, one for the unit.
-struct Memory {
+pub(crate) struct Memory {
     output: Guarded,
     unit: Guarded,
 }
 
 impl Memory {
-    fn new() -> Self {
+    pub(crate) fn new() -> Self {
         Self {
             output: Guarded::new(),
             unit: Guarded::new(),
@@ -67,7 +68,7 @@ impl Memory {
     }
 
     /// Buffers one short, exact, and, at every third length of a unit, larger.
-    fn around(&mut self, call: &Call) -> (u8, usize) {
+    pub(crate) fn around(&mut self, call: &Call) -> (u8, usize) {
         let (answer, mut output) = call.second(call.unit.len() + 16 * 256);
         output.truncate(answer.1 + 9);
         if call.unit.len() % 3 == 0 || answer.0 != 0 {
@@ -97,12 +98,20 @@ fn telling_inputs() {
     }
 }
 
+/// A unit of that many bytes: without LLC/SNAP a datagram, where one can have so few.
+fn any_unit(random: &mut Random, llc_snap: u8, length: usize) -> Vec<u8> {
+    if llc_snap == 0 && length >= 20 {
+        any_datagram(random, length)
+    } else {
+        random.repeated(length)
+    }
+}
+
 /// Lengths of 0 to 9,000 bytes, as far as one section more than the limit.
 #[test]
 fn every_length() {
     let mut memory = Memory::new();
     let mut random = Random::new(1);
-    let bytes = random.bytes(10_000);
     for (piece_size, step) in [
         (Some(1), 1),
         (Some(16), 1),
@@ -117,14 +126,19 @@ fn every_length() {
         };
         let most = 255 * piece_size.unwrap_or(1_008);
         for length in (0..=9_000.min(most + 1)).step_by(step) {
+            let llc_snap = (length % 3) as u8;
             let call = Call {
                 settings,
-                llc_snap: (length % 3) as u8,
+                llc_snap,
                 piece_size,
-                unit: &bytes[length % 1_000..][..length],
+                unit: &any_unit(&mut random, llc_snap, length),
             };
             let (number, _) = memory.around(&call);
-            let expected = if length <= most { 0 } else { 52 };
+            let expected = match length {
+                0..=19 if llc_snap == 0 => 54,
+                _ if length > most => 52,
+                _ => 0,
+            };
             assert_eq!(number, expected, "{length} bytes");
         }
     }
@@ -134,7 +148,7 @@ fn every_length() {
 #[test]
 fn the_longest_units() {
     let mut memory = Memory::new();
-    let bytes = Random::new(2).bytes(65_540);
+    let mut random = Random::new(2);
     for (piece_size, limit, length, number) in [
         (Some(4_080), 17, 65_535, 0),
         (Some(4_080), 16, 65_535, 52),
@@ -150,17 +164,19 @@ fn the_longest_units() {
         (Some(256), 255, 65_280, 0),
         (Some(1), 255, 65_535, 52),
     ] {
-        let call = Call {
-            settings: Settings {
-                address: OURS,
-                range: 1,
-                limit,
-            },
-            llc_snap: 0xFF,
-            piece_size,
-            unit: &bytes[..length],
-        };
-        assert_eq!(memory.around(&call).0, number, "{length} by {piece_size:?}");
+        for llc_snap in [0, 0xFF] {
+            let call = Call {
+                settings: Settings {
+                    address: OURS,
+                    range: 1,
+                    limit,
+                },
+                llc_snap,
+                piece_size,
+                unit: &any_unit(&mut random, llc_snap, length),
+            };
+            assert_eq!(memory.around(&call).0, number, "{length} by {piece_size:?}");
+        }
     }
 }
 
@@ -169,19 +185,20 @@ fn the_longest_units() {
 #[test]
 fn smaller_sections_by_default() {
     let mut memory = Memory::new();
-    let bytes = Random::new(5).bytes(65_535);
+    let mut random = Random::new(5);
     let of_the_request = [0, 1, 1_008, 1_009, 16_128, 16_129].map(|length| (16, length));
     let at_each_limit = (1..=65).flat_map(|limit| [0, 1].map(|more| (limit, 1_008 * limit + more)));
     for (limit, length) in at_each_limit.chain(of_the_request) {
+        let llc_snap = u8::from(length < 20); // too few for a datagram
         let call = Call {
             settings: Settings {
                 address: OURS,
                 range: 6,
                 limit,
             },
-            llc_snap: 0,
+            llc_snap,
             piece_size: None,
-            unit: &bytes[..length],
+            unit: &any_unit(&mut random, llc_snap, length),
         };
         let (number, total) = memory.around(&call);
         let expected = if length > 1_008 * limit { 52 } else { 0 };
@@ -206,10 +223,36 @@ fn the_sample_sent_by_default() {
 }
 
 /// The refusals of the sender, in their order.
-const REFUSALS: [u8; 5] = [10, 50, 51, 52, 53];
+const REFUSALS: [u8; 6] = [10, 50, 51, 54, 52, 53];
 
-/// A call to which the refusals of `faults` apply, and no others, and the output buffer's length.
-fn faulty_call<'a>(random: &mut Random, bytes: &'a [u8], faults: &[u8]) -> (Call<'a>, usize) {
+/// LLC_SNAP_flag and a unit to which of 51 and 54 those of `faults` apply. A header of version 6 can
+/// state lengths that are over 65,535.
+fn faulty_unit(random: &mut Random, faults: &[u8]) -> (u8, Vec<u8>) {
+    let length = if faults.contains(&51) {
+        random.between(65_537, 65_574)
+    } else {
+        random.between(4_082, 9_000)
+    };
+    if !faults.contains(&54) {
+        let llc_snap = random.pick(&[0, 0, 1, 255]);
+        return (llc_snap, any_unit(random, llc_snap, length));
+    }
+    let mut unit = any_datagram(random, length);
+    match random.below(3) {
+        0 => unit.push(random.byte()),
+        1 => drop(unit.pop()),
+        _ => unit[0] ^= 0x80, // the version
+    }
+    (0, unit)
+}
+
+/// A call to which the refusals of `faults` apply, and no others, and the output buffer's length; flag
+/// and unit are such already.
+fn faulty_call<'a>(
+    random: &mut Random,
+    (llc_snap, unit): &'a (u8, Vec<u8>),
+    faults: &[u8],
+) -> (Call<'a>, usize) {
     let piece_size = if faults.contains(&50) {
         Some(random.pick(&[0, 4_081, 4_096, 65_537, 1 << 32 | 16, usize::MAX]))
     } else if random.one_in(4) {
@@ -217,20 +260,15 @@ fn faulty_call<'a>(random: &mut Random, bytes: &'a [u8], faults: &[u8]) -> (Call
     } else {
         Some(random.between(300, 4_080))
     };
-    let length = if faults.contains(&51) {
-        random.between(65_536, 70_000)
-    } else {
-        random.between(4_081, 9_000)
-    };
     let limit = if faults.contains(&52) {
-        random.between(1, (length - 1) / 4_080)
+        random.between(1, (unit.len() - 1) / 4_080)
     } else {
         255
     };
     let output_length = if faults.contains(&53) {
-        random.below(length + 32)
+        random.below(unit.len() + 32)
     } else {
-        length + 16 * 255
+        unit.len() + 16 * 255
     };
     let settings = if faults.contains(&10) {
         bad_settings(random)
@@ -242,9 +280,9 @@ fn faulty_call<'a>(random: &mut Random, bytes: &'a [u8], faults: &[u8]) -> (Call
     };
     let call = Call {
         settings,
-        llc_snap: random.byte(),
+        llc_snap: *llc_snap,
         piece_size,
-        unit: &bytes[..length],
+        unit,
     };
     (call, output_length)
 }
@@ -254,10 +292,10 @@ fn faulty_call<'a>(random: &mut Random, bytes: &'a [u8], faults: &[u8]) -> (Call
 fn every_set_of_faults() {
     let mut memory = Memory::new();
     let mut random = Random::new(3);
-    let bytes = random.bytes(70_000);
     for faults in subsets(&REFUSALS) {
         for _ in 0..20 {
-            let (call, output_length) = faulty_call(&mut random, &bytes, &faults);
+            let unit = faulty_unit(&mut random, &faults);
+            let (call, output_length) = faulty_call(&mut random, &unit, &faults);
             let (answer, output) = call.second(output_length);
             let first = faults.first().copied().unwrap_or(0);
             assert_eq!(answer.0, first, "{faults:?}");
@@ -266,10 +304,26 @@ fn every_set_of_faults() {
     }
 }
 
+/// What is sent, through a fresh receiver with no more room than the unit needs.
+fn assert_delivered(settings: fossknut::Settings, sections: &[u8], unit: &[u8]) {
+    let mut receiver = fossknut::Receiver::new(settings, vec![0; unit.len()]);
+    let mut delivered = false;
+    for (_, section) in offers(sections) {
+        assert!(!delivered, "a section after the last");
+        match receiver.receive(section) {
+            Answer::Stored => {}
+            answer => {
+                assert_eq!(answer, Answer::Delivered(unit));
+                delivered = true;
+            }
+        }
+    }
+    assert!(delivered);
+}
+
 #[test]
 fn what_the_wrapper_sends_the_wrapper_receives() {
     let mut random = Random::new(4);
-    let bytes = random.bytes(65_535);
     for turn in 0..600 {
         let settings = numbers::settings(&good_settings(&mut random));
         let piece_size = match random.below(4) {
@@ -277,24 +331,14 @@ fn what_the_wrapper_sends_the_wrapper_receives() {
             1 => Some(random.between(1, 4_080)),
             _ => Some(random.between(1, 60)),
         };
-        let longest = settings.limit * piece_size.unwrap_or(1_008);
-        let unit = &bytes[..random.between(0, longest.min(65_535))];
-        let mut output = vec![0; unit.len() + 16 * settings.limit];
-        let sent = fossknut::send(&settings, turn % 2 == 0, piece_size, unit, &mut output);
-        let length = sent.expect("a unit of as many sections as the limit allows");
-        let mut receiver = fossknut::Receiver::new(settings, vec![0; unit.len()]);
-        let mut delivered = false;
-        for (_, section) in offers(&output[..length]) {
-            assert!(!delivered, "a section after the last");
-            match receiver.receive(section) {
-                Answer::Stored => {}
-                answer => {
-                    assert_eq!(answer, Answer::Delivered(unit));
-                    delivered = true;
-                }
-            }
-        }
-        assert!(delivered);
+        let longest = 65_535.min(settings.limit * piece_size.unwrap_or(1_008));
+        let llc_snap = longest < 20 || turn % 2 == 0;
+        let length = random.between(if llc_snap { 0 } else { 20 }, longest);
+        let unit = any_unit(&mut random, llc_snap.into(), length);
+        let mut output = vec![0; length + 16 * settings.limit];
+        let sent = fossknut::send(&settings, llc_snap, piece_size, &unit, &mut output);
+        let sent = sent.expect("a unit of as many sections as the limit allows");
+        assert_delivered(settings, &output[..sent], &unit);
     }
 }
 
@@ -305,15 +349,17 @@ fn the_wrapper_refuses_by_name() {
         range: 6,
         limit: 1,
     };
-    let mut output = [0; 16];
+    let mut output = [0; 36];
     let mut send =
         |piece_size, unit: &[u8]| fossknut::send(&ours, false, piece_size, unit, &mut output);
-    assert_eq!(send(None, &[]), Ok(16));
+    assert_eq!(send(None, &bare_ipv4(20)), Ok(36));
     assert_eq!(send(Some(0), &[]), Err(Refusal::PieceSize));
     assert_eq!(send(None, &[0; 65_536]), Err(Refusal::Unit));
-    assert_eq!(send(Some(1), &[0; 2]), Err(Refusal::Sections));
-    assert_eq!(send(None, &[0; 1_009]), Err(Refusal::Sections));
-    assert_eq!(send(None, &[0]), Err(Refusal::Output));
+    assert_eq!(send(None, &[]), Err(Refusal::IpDatagram));
+    assert_eq!(send(Some(19), &bare_ipv4(20)), Err(Refusal::Sections));
+    assert_eq!(send(None, &bare_ipv4(1_009)), Err(Refusal::Sections));
+    assert_eq!(send(None, &bare_ipv4(21)), Err(Refusal::Output));
+    assert_eq!(fossknut::send(&ours, true, None, &[], &mut output), Ok(16));
     let none = fossknut::Settings { limit: 0, ..ours };
     assert_eq!(
         fossknut::send(&none, false, None, &[], &mut []),
