@@ -1,5 +1,6 @@
 //! Inputs for the tests: sections made as a sender makes them, and faults put into them on purpose.
 
+pub mod datagrams;
 pub mod notifications;
 pub mod recordings;
 pub mod rows;

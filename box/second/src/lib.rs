@@ -11,6 +11,7 @@
 
 pub mod archive;
 mod crc_32;
+pub mod datagram;
 pub mod generator;
 pub mod listing;
 pub mod notification;

@@ -1,7 +1,8 @@
-//! The receiver (01, "The receiver"; 02, request 5): settings, the run's state, and one step for each
-//! section.
+//! The receiver (01, "The receiver"; 02, requests 3 and 5): settings, the run's state, and one step
+//! for each section.
 
 use crate::check;
+use crate::datagram::unit_length;
 use crate::section::Section;
 
 /// What a receiver is set to.
@@ -107,41 +108,61 @@ impl Receiver {
 
     /// One section, of any length.
     pub fn receive(&mut self, bytes: &[u8]) -> Answer {
-        let number = self.number(bytes);
-        let mut length = 0;
-        if number <= 1 {
-            length = self.store(&Section(bytes));
-        } else if number != 2 {
-            self.state = None;
+        let answer = self.answer(bytes);
+        match answer.number {
+            0 | 1 => self.store(&Section(bytes)),
+            2 => {}
+            _ => self.state = None,
         }
-        Answer { number, length }
+        answer
     }
 
-    /// The first of the table's lines that applies.
-    fn number(&self, bytes: &[u8]) -> u8 {
+    /// The first of the table's lines that applies: 25 is the last of the refusals, and asked at
+    /// number L only.
+    fn answer(&self, bytes: &[u8]) -> Answer {
+        let without_length = |number| Answer { number, length: 0 };
+        if let Some(number) = self.unreceivable(bytes) {
+            return without_length(number);
+        }
+        let section = Section(bytes);
+        let room = room(self.buffer.len());
+        match self.filled_before(&section) {
+            None => without_length(22),
+            Some(filled) if filled + section.payload().len() > room => without_length(23),
+            Some(_) if section.section_number() < section.last_section_number() => {
+                without_length(1)
+            }
+            Some(filled) => match self.unit_length(filled, &section) {
+                None => without_length(25),
+                Some(length) => Answer { number: 0, length },
+            },
+        }
+    }
+
+    /// The first of the lines up to 21 that applies; none if the section is receivable.
+    fn unreceivable(&self, bytes: &[u8]) -> Option<u8> {
         if !self.settings.are_good() {
-            return 10;
+            return Some(10);
         }
         if self.state.map_or(false, |run| !run.is_good(&self.settings)) {
-            return 11;
+            return Some(11);
         }
         let fault = check(bytes);
         if fault != 0 {
-            return fault;
+            return Some(fault);
         }
         let section = Section(bytes);
         if !self.settings.are_addressed_by(section.mac_address()) {
-            return 2;
+            return Some(2);
         }
-        if let Some(bar) = self.settings.bar(&section) {
-            return bar;
-        }
-        match self.filled_before(&section) {
-            None => 22,
-            Some(filled) if filled + section.payload().len() > room(self.buffer.len()) => 23,
-            _ if section.section_number() < section.last_section_number() => 1,
-            _ => 0,
-        }
+        self.settings.bar(&section)
+    }
+
+    /// The length of the unit that ends with this section, which need not be stored yet: the bytes
+    /// before it are what the buffer holds, whoever wrote them (READINGS A32).
+    fn unit_length(&self, filled: usize, section: &Section) -> Option<usize> {
+        let joined = [&self.buffer[..filled], section.payload()].concat();
+        unit_length(section.llc_snap_flag() == 1, &joined)
     }
 
     /// Where the payload belongs: at 0 for number 0, after what is stored for the right
@@ -158,25 +179,20 @@ impl Receiver {
         goes_on.then_some(run.filled)
     }
 
-    /// Stores the payload of a section that is answered 0 or 1, and gives the unit's length.
-    fn store(&mut self, section: &Section) -> usize {
+    /// Stores the payload of a section that is answered 0 or 1: all of it, stuffing too.
+    fn store(&mut self, section: &Section) {
         let filled = self.filled_before(section).unwrap_or(0);
         let end = filled + section.payload().len();
         self.buffer[filled..end].copy_from_slice(section.payload());
         let number = usize::from(section.section_number());
         let last = usize::from(section.last_section_number());
-        if number == last {
-            self.state = None;
-            return end;
-        }
-        self.state = Some(Run {
+        self.state = (number < last).then_some(Run {
             next: number + 1,
             last,
             filled: end,
             llc_snap: section.llc_snap_flag() == 1,
             address: section.mac_address(),
         });
-        0
     }
 }
 

@@ -2,10 +2,12 @@
 //!
 //! Strike out the sound sections for other addresses: they hand over nothing. At any other event a
 //! datagram is handed over exactly when the struck row ends there in a whole run, and it is the
-//! payloads joined. The sections of a run share all six bytes of their address (02, request 5);
-//! other addresses are those that differ where compared.
+//! payloads joined, without LLC/SNAP as far as their IP header says (02, request 3). The sections of
+//! a run share all six bytes of their address (02, request 5); other addresses are those that differ
+//! where compared.
 
 use crate::check;
+use crate::datagram::unit_length;
 use crate::receiver::{room, Settings};
 use crate::section::Section;
 
@@ -33,7 +35,7 @@ enum Kind<'a> {
 pub struct Whole {
     /// The events of its sections, as places in the row.
     pub events: Vec<usize>,
-    /// Their payloads joined.
+    /// Their payloads joined, up to where the unit ends.
     pub unit: Vec<u8>,
 }
 
@@ -83,18 +85,38 @@ fn ending_at(kinds: &[Kind], at: usize, room: usize) -> Option<Whole> {
             Kind::Receivable(section) => stretch.insert(0, (place, section)),
             Kind::Break => break,
         }
-        if is_whole(&stretch, room) {
+        if let Some(whole) = whole(&stretch, room) {
             assert!(found.is_none(), "two whole runs end at event {at}");
-            found = Some(joined(&stretch));
+            found = Some(whole);
         }
     }
     found
 }
 
-/// Numbers 0 to L in order, one full address, one L, one flag, and a unit that fits.
-fn is_whole(stretch: &[(usize, &Section)], room: usize) -> bool {
+/// The stretch as a whole run: its numbers are 0 to L in order, its payloads fit, and their unit has
+/// an end.
+fn whole(stretch: &[(usize, &Section)], room: usize) -> Option<Whole> {
+    if !is_numbered(stretch) {
+        return None;
+    }
+    let payloads: Vec<&[u8]> = stretch
+        .iter()
+        .map(|(_, section)| section.payload())
+        .collect();
+    let joined = payloads.concat();
+    if joined.len() > room {
+        return None;
+    }
+    let llc_snap = stretch[0].1.llc_snap_flag() == 1;
+    Some(Whole {
+        events: stretch.iter().map(|&(place, _)| place).collect(),
+        unit: joined[..unit_length(llc_snap, &joined)?].to_vec(),
+    })
+}
+
+/// Numbers 0 to L in order, one full address, one L and one flag.
+fn is_numbered(stretch: &[(usize, &Section)]) -> bool {
     let first = stretch[0].1;
-    let length = stretch.iter().map(|(_, section)| section.payload().len());
     stretch.len() == usize::from(first.last_section_number()) + 1
         && stretch.iter().zip(0..).all(|((_, section), number)| {
             section.section_number() == number
@@ -102,17 +124,6 @@ fn is_whole(stretch: &[(usize, &Section)], room: usize) -> bool {
                 && section.last_section_number() == first.last_section_number()
                 && section.llc_snap_flag() == first.llc_snap_flag()
         })
-        && length.sum::<usize>() <= room
-}
-
-fn joined(stretch: &[(usize, &Section)]) -> Whole {
-    Whole {
-        events: stretch.iter().map(|&(place, _)| place).collect(),
-        unit: stretch
-            .iter()
-            .flat_map(|(_, section)| section.payload().to_vec())
-            .collect(),
-    }
 }
 
 #[cfg(test)]

@@ -1,5 +1,6 @@
-//! The sender (01, "The sender"): a unit cut into sections.
+//! The sender (01, "The sender"; 02, request 3): a unit cut into sections.
 
+use crate::datagram::unit_length;
 use crate::receiver::{Answer, Settings};
 use crate::section::{BEFORE_LENGTH, CRC_32, HEADER, SHORTEST, TABLE_ID};
 use crate::tables::slicing_by_16 as crc_32;
@@ -19,7 +20,7 @@ pub fn send(
     output: &mut [u8],
 ) -> Answer {
     let piece_size = piece_size.unwrap_or(DEFAULT_PIECE_SIZE);
-    let number = refusal(settings, piece_size, unit.len(), output.len());
+    let number = refusal(settings, llc_snap, piece_size, unit, output.len());
     if number != 0 {
         return Answer { number, length: 0 };
     }
@@ -36,17 +37,27 @@ pub fn send(
     Answer { number, length }
 }
 
-/// The first refusal that applies, else 0.
-fn refusal(settings: &Settings, piece_size: usize, unit: usize, output: usize) -> u8 {
+/// The first refusal that applies, else 0. 54 is for a unit that a receiver would refuse with 25 or
+/// cut short: it has to end where its header says, and with the LLC_SNAP_flag it always does.
+fn refusal(
+    settings: &Settings,
+    llc_snap: bool,
+    piece_size: usize,
+    unit: &[u8],
+    output: usize,
+) -> u8 {
+    let length = unit.len();
     if !settings.are_good() {
         10
     } else if !(1..=LARGEST_PIECE_SIZE).contains(&piece_size) {
         50
-    } else if unit > 65_535 {
+    } else if length > 65_535 {
         51
-    } else if sections(unit, piece_size) > settings.limit {
+    } else if unit_length(llc_snap, unit) != Some(length) {
+        54
+    } else if sections(length, piece_size) > settings.limit {
         52
-    } else if output < unit + SHORTEST * sections(unit, piece_size) {
+    } else if output < length + SHORTEST * sections(length, piece_size) {
         53
     } else {
         0

@@ -4,6 +4,7 @@
 //! Sisters are addresses that are the same where they are compared, and differ elsewhere: a receiver
 //! with a range below 6 takes the sections of all of them (02, request 5).
 
+use super::datagrams::going_on;
 use super::{faulty, seal, set_address, set_indicators, sound, CHECKS, CHECKSUM_FORM};
 use crate::random::Random;
 use crate::receiver::{Run, Settings};
@@ -89,23 +90,45 @@ fn any_last_section_number(random: &mut Random, settings: &Settings) -> u8 {
     last as u8
 }
 
-/// The sections of one unit for that address, in order: of many the first 41.
+/// The sections of one unit for that address, in order: of many the first 41. With the flag the unit
+/// has any bytes, and without it mostly begins with an IP datagram, whose header any section may cut.
 fn run_of(random: &mut Random, address: [u8; 6], last: u8, llc_snap: bool) -> Vec<Vec<u8>> {
+    let lengths = any_payload_lengths(random, usize::from(last) + 1);
+    let joined_length = lengths.iter().sum();
+    let joined = if llc_snap {
+        random.bytes(joined_length)
+    } else {
+        going_on(random, &[], joined_length)
+    };
+    let mut rest = &joined[..];
+    let mut sections = Vec::new();
+    for (number, length) in (0..=last.min(40)).zip(lengths) {
+        let (payload, after) = rest.split_at(length);
+        let mut section = sound(address, number, last, payload);
+        section[5] |= u8::from(llc_snap) << 1;
+        if random.one_in(60) {
+            section[5] |= (random.between(1, 3) as u8) << 4; // payload scrambling
+        }
+        seal(&mut section);
+        sections.push(section);
+        rest = after;
+    }
+    sections
+}
+
+/// Mostly few bytes a section, and often none; together mostly enough for an IP header.
+fn any_payload_lengths(random: &mut Random, sections: usize) -> Vec<usize> {
     let longest = if random.one_in(500) { 4_080 } else { 20 };
-    let numbers = 0..=last.min(40);
-    numbers
-        .map(|number| {
-            let payload_length = random.between(0, longest);
-            let payload = random.bytes(payload_length);
-            let mut section = sound(address, number, last, &payload);
-            section[5] |= u8::from(llc_snap) << 1;
-            if random.one_in(60) {
-                section[5] |= (random.between(1, 3) as u8) << 4; // payload scrambling
-            }
-            seal(&mut section);
-            section
-        })
-        .collect()
+    let any_length = |_| match random.below(6) {
+        0 => 0,
+        _ => random.between(0, longest),
+    };
+    let mut lengths: Vec<usize> = (0..sections).map(any_length).collect();
+    let is_short = lengths.iter().sum::<usize>() < 40;
+    if is_short && !random.one_in(8) {
+        lengths[random.below(sections)] += random.between(20, 40);
+    }
+    lengths
 }
 
 /// The sections of a unit each for two or three sisters, mixed so that each one's keep their order.
@@ -294,12 +317,12 @@ fn any_kept_address(random: &mut Random, settings: &Settings) -> [u8; 6] {
     address
 }
 
-/// A section that goes on with the run, or nearly, with a payload of that length.
+/// A section that goes on with the run, or nearly, with this payload.
 pub fn nearly_continuing(
     random: &mut Random,
     settings: &Settings,
     run: &Run,
-    payload_length: usize,
+    payload: &[u8],
 ) -> Vec<u8> {
     let mut address = run.address;
     match random.below(16) {
@@ -307,8 +330,7 @@ pub fn nearly_continuing(
         1 => address = any_own_address(random, settings),
         _ => {}
     }
-    let payload = random.repeated(payload_length);
-    let mut section = sound(address, run.next as u8, run.last as u8, &payload);
+    let mut section = sound(address, run.next as u8, run.last as u8, payload);
     section[5] |= u8::from(run.llc_snap) << 1;
     match random.below(16) {
         0 => section[5] ^= 2,
