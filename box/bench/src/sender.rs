@@ -1,5 +1,6 @@
 //! The sender beside the second program's, in MB/s of units (10^6 bytes a second).
 
+use second::generator::datagrams::any_datagram;
 use second::listing::SETTINGS;
 use second::random::Random;
 use second::receiver::Settings;
@@ -32,7 +33,7 @@ fn by_second(piece_size: usize, unit: &[u8], output: &mut [u8]) -> usize {
 }
 
 pub fn agree() -> Result<(), String> {
-    let unit = Random::new(3).bytes(UNIT);
+    let unit = any_datagram(&mut Random::new(3), UNIT);
     for piece_size in PIECE_SIZES {
         let [ours, seconds] = PROGRAMS.map(|(_, send)| {
             let mut output = vec![0; OUTPUT];
@@ -59,7 +60,7 @@ pub fn print_speeds() {
 }
 
 fn speeds(piece_size: usize) -> [f64; PROGRAMS.len()] {
-    let unit = &Random::new(4).bytes(UNIT)[..];
+    let unit = &any_datagram(&mut Random::new(4), UNIT)[..];
     let programs = PROGRAMS.map(|(_, send)| -> Calls {
         let mut output = vec![0; OUTPUT];
         Box::new(move |calls| {

@@ -246,8 +246,8 @@ fn faulty_unit(random: &mut Random, faults: &[u8]) -> (u8, Vec<u8>) {
     (0, unit)
 }
 
-/// A call to which the refusals of `faults` apply, and no others, and the output buffer's length; flag
-/// and unit are such already.
+/// A call to which the refusals of `faults` apply, and no others, with a flag and unit of which that is
+/// true already; and the output buffer's length.
 fn faulty_call<'a>(
     random: &mut Random,
     (llc_snap, unit): &'a (u8, Vec<u8>),
