@@ -1,4 +1,6 @@
 //! The archive sender (01, "The sender"): standard input as one unit, cut into sections.
+//!
+//! Its sections have no LLC/SNAP (READINGS B8), so the unit has to be one IP datagram.
 
 use std::io::{self, Read, Write};
 
@@ -36,25 +38,43 @@ pub fn archive(
 #[cfg(test)]
 mod tests {
     use super::archive;
+    use crate::generator::datagrams::{bare_ipv4, bare_ipv6};
 
     /// What is written to output and errors.
-    fn archived(length: usize) -> (usize, String) {
+    fn archived(unit: &[u8]) -> (usize, String) {
         let (mut output, mut errors) = (Vec::new(), Vec::new());
-        archive(&vec![0x55; length][..], &mut output, &mut errors).expect("vectors take all");
+        archive(unit, &mut output, &mut errors).expect("vectors take all");
         let errors = String::from_utf8(errors).expect("a number");
         (output.len(), errors)
+    }
+
+    fn refused(number: u8) -> (usize, String) {
+        (0, format!("{number}\n"))
     }
 
     #[test]
     fn the_lengths_of_the_readings() {
         // READINGS A20, A21, B13
-        assert_eq!(archived(0), (16, String::new()));
-        assert_eq!(archived(4_081), (4_113, String::new()));
-        assert_eq!(archived(16_129), (16_129 + 16 * 4, String::new()));
-        assert_eq!(archived(65_280), (65_280 + 16 * 16, String::new()));
-        assert_eq!(archived(65_281), (0, "52\n".to_string()));
-        assert_eq!(archived(65_535), (0, "52\n".to_string()));
-        assert_eq!(archived(65_536), (0, "51\n".to_string()));
-        assert_eq!(archived(200_000), (0, "51\n".to_string()));
+        for (length, sections) in [(20, 1), (4_080, 1), (4_081, 2), (16_129, 4), (65_280, 16)] {
+            let sent = (length + 16 * sections, String::new());
+            assert_eq!(archived(&bare_ipv4(length)), sent);
+        }
+        assert_eq!(archived(&bare_ipv6(40)), (56, String::new()));
+        assert_eq!(archived(&bare_ipv4(65_281)), refused(52));
+        assert_eq!(archived(&bare_ipv6(65_535)), refused(52));
+        assert_eq!(archived(&bare_ipv6(65_536)), refused(51));
+        assert_eq!(archived(&[0x45; 200_000]), refused(51));
+    }
+
+    #[test]
+    fn what_is_not_one_datagram() {
+        // READINGS B7, B8
+        let datagram = bare_ipv4(1_008);
+        assert_eq!(archived(&[]), refused(54));
+        assert_eq!(archived(b"hello\n"), refused(54));
+        assert_eq!(archived(&datagram[..1_007]), refused(54));
+        assert_eq!(archived(&[&datagram[..], &[0]].concat()), refused(54));
+        assert_eq!(archived(&[0; 65_535]), refused(54));
+        assert_eq!(archived(&[0; 65_536]), refused(51));
     }
 }

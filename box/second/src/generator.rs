@@ -84,6 +84,11 @@ pub fn with_byte(section: &[u8], offset: usize, byte: u8) -> Vec<u8> {
     section
 }
 
+/// `section` with LLC_SNAP_flag 1, and CRC_32 right.
+pub fn with_llc_snap(section: &[u8]) -> Vec<u8> {
+    with_byte(section, 5, section[5] | 0x02)
+}
+
 /// `section` with one bit after its header received wrong.
 pub fn with_damaged_bit(section: &[u8]) -> Vec<u8> {
     let mut section = section.to_vec();

@@ -17,7 +17,10 @@ usage: second list                the listing of the recording on standard input
        second send                the sections of the unit on standard input
        second vectors             the vectors and samples
        second generate            the names of the recordings
-       second generate NAME       that recording
+       second generate NAME       that recording, or one of these units:
+                                  bytes-N      N bytes
+                                  datagram-N   an IPv4 datagram of N bytes
+                                  datagram6-N  an IPv6 datagram of N bytes
        second dribble COMMAND..   the command, given standard input in reads of one byte each
        second unblocked COMMAND.. the command, whose input and output are set not to wait";
 
@@ -30,8 +33,8 @@ fn main() -> ExitCode {
         ["vectors"] => io::stdout().write_all(vectors::lines().as_bytes()),
         ["generate"] => print_names(),
         ["generate", name] => match named(name) {
-            Some(recording) => io::stdout().write_all(&recording),
-            None => return fail(&format!("second: no recording has the name {name}")),
+            Some(bytes) => io::stdout().write_all(&bytes),
+            None => return fail(&format!("second: nothing has the name {name}")),
         },
         ["dribble", program, ref arguments @ ..] => dribble(program, arguments),
         ["unblocked", program, ref arguments @ ..] => unblocked(program, arguments),

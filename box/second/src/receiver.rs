@@ -206,11 +206,7 @@ mod tests {
     #[test]
     fn each_telling_row_gets_its_answers() {
         for row in rows() {
-            let mut receiver = Receiver {
-                settings: row.settings,
-                state: row.state,
-                buffer: vec![0; row.buffer_length],
-            };
+            let mut receiver = row.receiver(0);
             let answers = row.events.iter().filter_map(|event| match event {
                 Event::Section(bytes) => Some(receiver.receive(bytes)),
                 Event::Gap => {
@@ -222,6 +218,8 @@ mod tests {
                 .map(|answer| (answer.number, answer.length))
                 .collect();
             assert_eq!(answers, row.answers, "{}", row.source);
+            let left = &receiver.buffer[..row.left.len()];
+            assert_eq!(left, row.left, "{}", row.source);
         }
     }
 

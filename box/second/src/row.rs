@@ -129,6 +129,7 @@ fn is_numbered(stretch: &[(usize, &Section)]) -> bool {
 #[cfg(test)]
 mod tests {
     use super::*;
+    use crate::generator::datagrams::bare_ipv4;
     use crate::generator::rows::any_row;
     use crate::generator::{sound, OURS};
     use crate::listing::SETTINGS;
@@ -197,11 +198,13 @@ mod tests {
             limit: 255,
             ..SETTINGS
         };
-        let section = |number| Event::Section(sound(OURS, number, 254, &[number]));
-        let events: Vec<Event> = (0..=254).map(section).collect();
+        let unit = bare_ipv4(255);
+        let sections = unit.iter().zip(0..);
+        let events: Vec<Event> = sections
+            .map(|(&byte, number)| Event::Section(sound(OURS, number, 254, &[byte])))
+            .collect();
         let whole = whole_runs(&settings, 255, &events);
         assert!(whole[..254].iter().all(Option::is_none));
-        let unit: Vec<u8> = (0..=254).collect();
         assert_eq!(whole[254].as_ref().map(|run| &run.unit), Some(&unit));
         assert_eq!(whole_runs(&settings, 254, &events)[254], None);
     }

@@ -103,6 +103,7 @@ pub fn write_section(
 #[cfg(test)]
 mod tests {
     use super::*;
+    use crate::generator::datagrams::{any_unit, bare_ipv4};
     use crate::generator::{rows::good_settings, OURS};
     use crate::random::Random;
     use crate::receiver::Receiver;
@@ -130,20 +131,21 @@ mod tests {
     #[test]
     fn what_is_sent_is_received() {
         let mut random = Random::new(1);
-        for _ in 0..2_000 {
+        for turn in 0..2_000 {
             let settings = good_settings(&mut random);
-            let piece_size = random.between(1, 50);
-            let unit_length = random.between(0, piece_size * settings.limit);
-            let unit = random.bytes(unit_length);
-            let mut output = vec![0; unit_length + 16 * settings.limit];
-            let answer = send(&settings, true, Some(piece_size), &unit, &mut output);
+            let piece_size = random.between(10, 50);
+            let length = random.between(0, piece_size * settings.limit);
+            let llc_snap = turn % 2 == 0;
+            let unit = any_unit(&mut random, llc_snap, length);
+            let mut output = vec![0; unit.len() + 16 * settings.limit];
+            let answer = send(&settings, llc_snap, Some(piece_size), &unit, &mut output);
             assert_eq!(answer.number, 0);
-            let mut receiver = Receiver::new(settings, vec![0; unit_length]);
+            let mut receiver = Receiver::new(settings, vec![0; unit.len()]);
             let answers: Vec<_> = offers(&output[..answer.length])
                 .map(|(_, section)| receiver.receive(section))
                 .collect();
             let (last, before) = answers.split_last().expect("a section at least");
-            assert_eq!((last.number, last.length), (0, unit_length));
+            assert_eq!((last.number, last.length), (0, unit.len()));
             assert!(before.iter().all(|answer| answer.number == 1));
             assert_eq!(receiver.buffer, unit);
         }
@@ -151,11 +153,12 @@ mod tests {
 
     #[test]
     fn a_section_of_the_papers() {
-        // 01, "Samples on the bench"
-        let mut section = [0; 20];
-        write_section(&mut section, OURS, false, [0, 0], b"knut");
-        let header = [0x3E, 0xB0, 0x11, 0x30, 0x20, 0xC1, 0, 0, 0x10, 0x5E, 0, 2];
+        // 01, "Samples on the bench"; READINGS B9
+        let mut section = [0; 36];
+        let unit = bare_ipv4(20);
+        write_section(&mut section, OURS, false, [0, 0], &unit);
+        let header = [0x3E, 0xB0, 0x21, 0x30, 0x20, 0xC1, 0, 0, 0x10, 0x5E, 0, 2];
         assert_eq!(section[..12], header);
-        assert_eq!(&section[12..16], b"knut");
+        assert_eq!(section[12..32], unit);
     }
 }

@@ -6,6 +6,7 @@ mod packet;
 mod row;
 mod section;
 mod sending;
+mod unit_end;
 
 pub use notification::{notifications, Notification};
 pub use packet::{packets, Packet};

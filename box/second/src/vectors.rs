@@ -6,6 +6,7 @@
 use std::fmt::Write;
 
 use crate::crc_32;
+use crate::generator::datagrams::bare_ipv4;
 use crate::listing::SETTINGS;
 use crate::recording::offers;
 use crate::sender::send;
@@ -84,10 +85,11 @@ pub fn lines() -> String {
         let value = crc_32(vector.bytes);
         writeln!(lines, "crc_32 {} {value:08X}", vector.name).expect("a String takes any text");
     }
-    for (length, piece_size) in [(4_081, 4_080), (0, 4_080)] {
+    // Nobody could send an empty unit without LLC/SNAP.
+    for (llc_snap, unit) in [(false, bare_ipv4(4_081)), (true, Vec::new())] {
+        let (length, piece_size) = (unit.len(), 4_080);
         let mut output = vec![0; 5_000];
-        let unit = vec![0; length];
-        let answer = send(&SETTINGS, false, Some(piece_size), &unit, &mut output);
+        let answer = send(&SETTINGS, llc_snap, Some(piece_size), &unit, &mut output);
         let sections = offers(&output[..answer.length]).count();
         let total = answer.length;
         writeln!(lines, "send {length} {piece_size} {sections} {total}")

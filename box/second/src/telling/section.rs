@@ -1,5 +1,6 @@
 //! Sections for the check.
 
+use crate::generator::datagrams::bare_ipv4;
 use crate::generator::{
     in_checksum_form, seal, set_indicators, set_section_length, sound, with_byte, with_damaged_bit,
     CHECKSUM_FORM, OURS,
@@ -31,17 +32,19 @@ pub fn sections() -> Vec<Section> {
 
 type Row = (&'static str, Vec<u8>, u8);
 
+/// A section with a payload of that length, the bytes of which no check looks at.
 fn with_payload(length: usize) -> Vec<u8> {
     sound(OURS, 0, 0, &vec![0x55; length])
 }
 
 #[rustfmt::skip] // one row per line
 fn samples_of_01() -> Vec<Row> {
+    let alone = |length| sound(OURS, 0, 0, &bare_ipv4(length));
     vec![
-        ("01: payload of 4 bytes", with_payload(4), 0),
-        ("01: payload 4,080", with_payload(4_080), 0),
+        ("01, B9: payload of 20 bytes", alone(20), 0),
+        ("01: payload 4,080", alone(4_080), 0),
         ("01: 15 bytes", with_payload(0)[..15].to_vec(), 12),
-        ("01: section_length 4,094 in 4,097 bytes", with_payload(4_081), 14),
+        ("01: section_length 4,094 in 4,097 bytes", alone(4_081), 14),
         ("01: the listing's first line", LISTING_OF_01[..16].to_vec(), 13),
         ("01: the listing's second line", LISTING_OF_01[16..19].to_vec(), 12),
         ("01: the listing's third line", LISTING_OF_01[19..].to_vec(), 12),
