@@ -6,7 +6,7 @@ use crate::{ffi, numbers};
 use fossknut::Answer;
 use second::generator::datagrams::{any_datagram, bare_ipv4, going_on, udp_over_ipv4};
 use second::generator::rows::{any_row, any_state, bad_settings, good_settings, nearly_continuing};
-use second::generator::{sound, with_byte};
+use second::generator::{sound, with_llc_snap};
 use second::random::Random;
 use second::receiver::{Receiver, Run, Settings};
 use second::row::{whole_runs, Event};
@@ -17,12 +17,9 @@ use second::telling;
 fn telling_inputs() {
     let mut memory = Memory::new();
     for row in telling::rows() {
-        let mut pair = memory.pair(Receiver {
-            settings: row.settings,
-            state: row.state,
-            buffer: vec![0xA5; row.buffer_length],
-        });
+        let mut pair = memory.pair(row.receiver(0xA5));
         assert_eq!(pair.row(&row.events), row.answers, "{}", row.source);
+        assert!(pair.buffer.starts_with(&row.left), "{}", row.source);
     }
 }
 
@@ -330,7 +327,7 @@ fn the_wrapper_by_any_memory() {
     assert_eq!(receiver.receive(&[]).number(), 12);
     assert_eq!(receiver.into_buffer(), [0; 31]);
     let mut receiver = fossknut::Receiver::new(ours, []);
-    let empty = with_byte(&sound(ours.address, 0, 0, &[]), 5, 0xC3); // LLC/SNAP
+    let empty = with_llc_snap(&sound(ours.address, 0, 0, &[]));
     assert_eq!(receiver.receive(&empty), Answer::Delivered(&[]));
     let others = receiver.receive(&sound([0; 6], 0, 1, &[]));
     assert_eq!((others, others.number()), (Answer::PassedBy, 2));

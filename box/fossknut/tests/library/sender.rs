@@ -3,7 +3,7 @@
 use crate::guarded::Guarded;
 use crate::{ffi, numbers};
 use fossknut::{Answer, Refusal};
-use second::generator::datagrams::{any_datagram, bare_ipv4};
+use second::generator::datagrams::{any_datagram, any_unit, bare_ipv4};
 use second::generator::rows::{bad_settings, good_settings};
 use second::generator::{subsets, OURS};
 use second::random::Random;
@@ -98,15 +98,6 @@ fn telling_inputs() {
     }
 }
 
-/// A unit of that many bytes: without LLC/SNAP a datagram, where one can have so few.
-fn any_unit(random: &mut Random, llc_snap: u8, length: usize) -> Vec<u8> {
-    if llc_snap == 0 && length >= 20 {
-        any_datagram(random, length)
-    } else {
-        random.repeated(length)
-    }
-}
-
 /// Lengths of 0 to 9,000 bytes, as far as one section more than the limit.
 #[test]
 fn every_length() {
@@ -126,19 +117,16 @@ fn every_length() {
         };
         let most = 255 * piece_size.unwrap_or(1_008);
         for length in (0..=9_000.min(most + 1)).step_by(step) {
-            let llc_snap = (length % 3) as u8;
+            // Fewer than 20 bytes are no datagram.
+            let llc_snap = length < 20 || length % 3 != 0;
             let call = Call {
                 settings,
-                llc_snap,
+                llc_snap: u8::from(llc_snap) * (1 + length as u8 % 2),
                 piece_size,
                 unit: &any_unit(&mut random, llc_snap, length),
             };
             let (number, _) = memory.around(&call);
-            let expected = match length {
-                0..=19 if llc_snap == 0 => 54,
-                _ if length > most => 52,
-                _ => 0,
-            };
+            let expected = if length <= most { 0 } else { 52 };
             assert_eq!(number, expected, "{length} bytes");
         }
     }
@@ -173,7 +161,7 @@ fn the_longest_units() {
                 },
                 llc_snap,
                 piece_size,
-                unit: &any_unit(&mut random, llc_snap, length),
+                unit: &any_unit(&mut random, llc_snap != 0, length),
             };
             assert_eq!(memory.around(&call).0, number, "{length} by {piece_size:?}");
         }
@@ -189,14 +177,14 @@ fn smaller_sections_by_default() {
     let of_the_request = [0, 1, 1_008, 1_009, 16_128, 16_129].map(|length| (16, length));
     let at_each_limit = (1..=65).flat_map(|limit| [0, 1].map(|more| (limit, 1_008 * limit + more)));
     for (limit, length) in at_each_limit.chain(of_the_request) {
-        let llc_snap = u8::from(length < 20); // too few for a datagram
+        let llc_snap = length < 20; // too few for a datagram
         let call = Call {
             settings: Settings {
                 address: OURS,
                 range: 6,
                 limit,
             },
-            llc_snap,
+            llc_snap: llc_snap.into(),
             piece_size: None,
             unit: &any_unit(&mut random, llc_snap, length),
         };
@@ -235,7 +223,7 @@ fn faulty_unit(random: &mut Random, faults: &[u8]) -> (u8, Vec<u8>) {
     };
     if !faults.contains(&54) {
         let llc_snap = random.pick(&[0, 0, 1, 255]);
-        return (llc_snap, any_unit(random, llc_snap, length));
+        return (llc_snap, any_unit(random, llc_snap != 0, length));
     }
     let mut unit = any_datagram(random, length);
     match random.below(3) {
@@ -246,8 +234,8 @@ fn faulty_unit(random: &mut Random, faults: &[u8]) -> (u8, Vec<u8>) {
     (0, unit)
 }
 
-/// A call to which the refusals of `faults` apply, and no others, with a flag and unit of which that is
-/// true already; and the output buffer's length.
+/// A call to which the refusals of `faults` apply, and no others, and the output buffer's length. Of
+/// flag and unit that is true already.
 fn faulty_call<'a>(
     random: &mut Random,
     (llc_snap, unit): &'a (u8, Vec<u8>),
@@ -333,9 +321,9 @@ fn what_the_wrapper_sends_the_wrapper_receives() {
         };
         let longest = 65_535.min(settings.limit * piece_size.unwrap_or(1_008));
         let llc_snap = longest < 20 || turn % 2 == 0;
-        let length = random.between(if llc_snap { 0 } else { 20 }, longest);
-        let unit = any_unit(&mut random, llc_snap.into(), length);
-        let mut output = vec![0; length + 16 * settings.limit];
+        let length = random.between(0, longest);
+        let unit = any_unit(&mut random, llc_snap, length);
+        let mut output = vec![0; unit.len() + 16 * settings.limit];
         let sent = fossknut::send(&settings, llc_snap, piece_size, &unit, &mut output);
         let sent = sent.expect("a unit of as many sections as the limit allows");
         assert_delivered(settings, &output[..sent], &unit);
