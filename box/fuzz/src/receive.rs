@@ -1,5 +1,6 @@
 //! The receiver: rows of sections and gap notices, the state handed on.
 
+use second::generator::datagrams::going_on;
 use second::generator::mutated;
 use second::generator::rows::{
     any_own_address, any_row, any_settings, any_state, good_state, nearly_continuing,
@@ -41,11 +42,10 @@ pub fn input(random: &mut Random) -> Row {
         llc_snap: u8::from(run.llc_snap) * random.pick(&[1, 2, 255]),
         ..numbers::state(Some(run))
     };
-    let buffer_length = any_buffer_length(random, run.filled);
     let start = Receiver {
         settings,
         state: (state.run != 0).then_some(run),
-        buffer: random.repeated(buffer_length),
+        buffer: any_buffer(random, run.filled),
     };
     let mut receiver = start.clone();
     let events = (0..12).map(|_| nearly_right(random, &mut receiver));
@@ -54,6 +54,15 @@ pub fn input(random: &mut Random) -> Row {
         state,
         events: events.collect(),
     }
+}
+
+/// What is filled mostly begins as an IP datagram does.
+fn any_buffer(random: &mut Random, filled: usize) -> Vec<u8> {
+    let length = any_buffer_length(random, filled);
+    let held = filled.min(length);
+    let mut buffer = going_on(random, &[], held);
+    buffer.extend(random.repeated(length - held));
+    buffer
 }
 
 /// Mostly short; often there is hardly any room after what is filled.
@@ -85,7 +94,12 @@ fn nearly_right(random: &mut Random, receiver: &mut Receiver) -> Event {
     let run = receiver.state.unwrap_or(first);
     let left = room(receiver.buffer.len()).saturating_sub(run.filled);
     let payload_length = any_payload_length(random, left);
-    let mut section = nearly_continuing(random, &receiver.settings, &run, payload_length);
+    let held = &receiver.buffer[..run.filled.min(receiver.buffer.len())];
+    let payload = match run.llc_snap {
+        true => random.repeated(payload_length),
+        false => going_on(random, held, payload_length),
+    };
+    let mut section = nearly_continuing(random, &receiver.settings, &run, &payload);
     if random.one_in(24) {
         section = mutated(random, section);
     }
@@ -155,4 +169,25 @@ fn compare_whole(row: &Row, buffer_after: &[u8], memory: &Memory) {
         same("unit", unit, whole.as_ref().map(|run| &run.unit[..]));
     }
     buffer.expect(buffer_after);
+}
+
+#[test]
+fn units_of_every_kind_are_delivered() {
+    let mut random = Random::new(1);
+    let mut delivered = second::tally::Delivered::default();
+    for _ in 0..10_000 {
+        let Row { start, events, .. } = input(&mut random);
+        let mut receiver = start;
+        for event in &events {
+            match event {
+                Event::Gap => receiver.gap(),
+                Event::Section(bytes) => {
+                    let before = receiver.state;
+                    let answer = receiver.receive(bytes);
+                    delivered.count(before, bytes, answer);
+                }
+            }
+        }
+    }
+    delivered.assert_each(1_000);
 }

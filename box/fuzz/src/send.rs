@@ -1,6 +1,8 @@
 //! The sender, by any piece size and by its own, and the way back through the receiver.
 
 use fossknut::Answer;
+use second::datagram::IPV4_HEADER;
+use second::generator::datagrams::{any_datagram, going_on};
 use second::generator::rows::any_settings;
 use second::random::Random;
 use second::receiver::Settings;
@@ -48,12 +50,24 @@ fn any_sending(random: &mut Random, piece_size: Option<usize>) -> Sending {
         3 | 4 => exact + random.between(1, 100),
         _ => exact,
     };
+    let llc_snap = random.pick(&[0, 0, 0, 1, 2, 255]);
     Sending {
         settings,
-        llc_snap: random.pick(&[0, 1, 2, 128, 255]),
+        llc_snap,
         piece_size,
-        unit: random.repeated(unit_length),
+        unit: any_unit(random, llc_snap != 0, unit_length),
         output: random.repeated(output_length),
+    }
+}
+
+/// With the flag any bytes; without it mostly a datagram, where there can be one, and else nearly one.
+fn any_unit(random: &mut Random, llc_snap: bool, length: usize) -> Vec<u8> {
+    if llc_snap {
+        random.repeated(length)
+    } else if !(IPV4_HEADER..=65_535).contains(&length) || random.one_in(4) {
+        going_on(random, &[], length)
+    } else {
+        any_datagram(random, length)
     }
 }
 

@@ -28,9 +28,9 @@ pub struct Case<'a> {
 pub const TARGETS: [Target; 7] = [
     Target { name: "crc_32", run: |case| case.run(crc_32::input, crc_32::compare), answers: &[] },
     Target { name: "check", run: |case| case.run(check::input, check::compare), answers: &[0, 12, 13, 14, 15, 16, 17, 18, 19, 24] },
-    Target { name: "receive", run: |case| case.run(receive::input, receive::compare), answers: &[0, 1, 2, 10, 11, 12, 13, 14, 15, 16, 17, 18, 19, 20, 21, 22, 23, 24] },
-    Target { name: "send", run: |case| case.run(send::input, send::compare), answers: &[0, 10, 50, 51, 52, 53] },
-    Target { name: "send_by_default", run: |case| case.run(send::input_by_default, send::compare), answers: &[0, 10, 51, 52, 53] },
+    Target { name: "receive", run: |case| case.run(receive::input, receive::compare), answers: &[0, 1, 2, 10, 11, 12, 13, 14, 15, 16, 17, 18, 19, 20, 21, 22, 23, 24, 25] },
+    Target { name: "send", run: |case| case.run(send::input, send::compare), answers: &[0, 10, 50, 51, 52, 53, 54] },
+    Target { name: "send_by_default", run: |case| case.run(send::input_by_default, send::compare), answers: &[0, 10, 51, 52, 53, 54] },
     Target { name: "notification", run: |case| case.run(notification::input, notification::compare), answers: &[3, 4, 12, 13, 14, 15, 16, 17, 18, 30, 31, 32, 33] },
     Target { name: "pes", run: |case| case.run(pes::input, pes::compare), answers: &[5, 40, 41, 42, 43] },
 ];

@@ -348,3 +348,34 @@ pub fn nearly_continuing(
     seal(&mut section);
     section
 }
+
+#[cfg(test)]
+mod tests {
+    use super::*;
+    use crate::receiver::Receiver;
+    use crate::tally::{Delivered, Tally};
+
+    #[test]
+    fn rows_reach_every_answer() {
+        let mut random = Random::new(1);
+        let (mut tally, mut delivered) = (Tally::default(), Delivered::default());
+        for _ in 0..20_000 {
+            let row = any_row(&mut random);
+            let mut receiver = Receiver::new(row.settings, vec![0; row.buffer_length]);
+            for event in &row.events {
+                match event {
+                    Event::Gap => receiver.gap(),
+                    Event::Section(bytes) => {
+                        let before = receiver.state;
+                        let answer = receiver.receive(bytes);
+                        tally.count(answer.number);
+                        delivered.count(before, bytes, answer);
+                    }
+                }
+            }
+        }
+        tally.assert_all((0..=2).chain(12..=24), 200);
+        tally.assert_all([25], 2_000);
+        delivered.assert_each(2_000);
+    }
+}
