@@ -1,5 +1,6 @@
 //! The receiver: rows of sections and gap notices, the state handed on.
 
+use second::datagram::stated_length;
 use second::generator::datagrams::going_on;
 use second::generator::mutated;
 use second::generator::rows::{
@@ -93,8 +94,11 @@ fn nearly_right(random: &mut Random, receiver: &mut Receiver) -> Event {
     };
     let run = receiver.state.unwrap_or(first);
     let left = room(receiver.buffer.len()).saturating_sub(run.filled);
-    let payload_length = any_payload_length(random, left);
     let held = &receiver.buffer[..run.filled.min(receiver.buffer.len())];
+    let payload_length = match stated_length(held) {
+        Some((_, stated)) if random.one_in(3) => any_last_length(random, stated, held.len()),
+        _ => any_payload_length(random, left),
+    };
     let payload = match run.llc_snap {
         true => random.repeated(payload_length),
         false => going_on(random, held, payload_length),
@@ -119,6 +123,12 @@ fn any_payload_length(random: &mut Random, left: usize) -> usize {
         _ => random.below(40),
     };
     length.min(4_080)
+}
+
+/// About as much as a unit still needs whose header is held.
+fn any_last_length(random: &mut Random, stated: usize, filled: usize) -> usize {
+    let length = stated + random.pick(&[0, 1, 1, 1, 2]);
+    length.saturating_sub(1 + filled).min(4_080)
 }
 
 pub fn compare(row: &Row, memory: &mut Memory, tally: &mut Tally) {

@@ -13,23 +13,21 @@ pub const IPV6_HEADER: usize = 40;
 /// where 25 applies.
 pub fn unit_length(llc_snap: bool, joined: &[u8]) -> Option<usize> {
     if llc_snap {
-        Some(joined.len())
-    } else {
-        datagram_length(joined)
+        return Some(joined.len());
     }
+    let (header, stated) = stated_length(joined)?;
+    (header..=joined.len()).contains(&stated).then_some(stated)
 }
 
-/// The length of the IP datagram that `joined` begins with, as its header states it; none for an
-/// empty unit, a version neither 4 nor 6, fewer bytes than the header has, and a stated length below
-/// that or above the joined length.
-fn datagram_length(joined: &[u8]) -> Option<usize> {
+/// The fewest bytes that a header of this version has, and the length that it states for its
+/// datagram; none for an empty unit, a version neither 4 nor 6, and fewer bytes than the header has.
+pub fn stated_length(joined: &[u8]) -> Option<(usize, usize)> {
     let version = joined.first()? >> 4;
-    let (header, stated) = match version {
-        4 if joined.len() >= IPV4_HEADER => (IPV4_HEADER, number_at(joined, 2)),
-        6 if joined.len() >= IPV6_HEADER => (IPV6_HEADER, IPV6_HEADER + number_at(joined, 4)),
-        _ => return None,
-    };
-    (header..=joined.len()).contains(&stated).then_some(stated)
+    match version {
+        4 if joined.len() >= IPV4_HEADER => Some((IPV4_HEADER, number_at(joined, 2))),
+        6 if joined.len() >= IPV6_HEADER => Some((IPV6_HEADER, IPV6_HEADER + number_at(joined, 4))),
+        _ => None,
+    }
 }
 
 /// The number in two bytes, high byte first.

@@ -197,16 +197,16 @@ fn any_fields(random: &mut Random, first: u8, joined: usize) -> [(usize, u8); 3]
     [(0, first), (place, high), (place + 1, low)]
 }
 
-/// Mostly from the header's length to the joined length, often at either end, or one beyond.
+/// Mostly from the header's length to the joined length, often at either end; seldom beyond them.
 fn any_stated_length(random: &mut Random, header: usize, joined: usize) -> usize {
     let within = random.between(header, joined.max(header));
     match random.below(16) {
         0 => header - 1,
         1 => joined + 1,
         2 => random.below(MOST + 1),
-        3 | 4 => header,
-        5 | 6 => joined.saturating_sub(1),
-        7..=10 => joined,
+        3 => header,
+        4 => joined.saturating_sub(1),
+        5..=10 => joined,
         _ => within,
     }
 }
