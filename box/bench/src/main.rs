@@ -5,6 +5,7 @@ mod before;
 mod crc_32;
 mod machine;
 mod notification;
+mod receiver;
 mod sender;
 mod timing;
 
@@ -22,6 +23,7 @@ fn main() -> ExitCode {
         return ExitCode::FAILURE;
     }
     crc_32::print_speeds();
+    receiver::print_times();
     sender::print_speeds();
     notification::print_times();
     ExitCode::SUCCESS
@@ -30,6 +32,7 @@ fn main() -> ExitCode {
 /// All programs give what the second program gives.
 fn all_agree() -> Result<(), String> {
     crc_32::agree()?;
+    receiver::agree()?;
     sender::agree()?;
     notification::agree()
 }
