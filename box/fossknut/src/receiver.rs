@@ -46,14 +46,17 @@ use crate::{Refusal, Settings};
 /// assert_eq!(receiver.receive(&section(0, first)), Answer::Stored);
 /// assert_eq!(receiver.receive(&section(1, rest)), Answer::Delivered(DATAGRAM));
 ///
+/// // With stuffing after it, the same is handed over.
 /// let stuffed = [rest, &[0xFF; 9]].concat();
 /// assert_eq!(receiver.receive(&section(0, first)), Answer::Stored);
 /// assert_eq!(receiver.receive(&section(1, &stuffed)), Answer::Delivered(DATAGRAM));
 ///
+/// // One byte fewer than it says that it has.
 /// let cut = &rest[..rest.len() - 1];
 /// assert_eq!(receiver.receive(&section(0, first)), Answer::Stored);
 /// assert_eq!(receiver.receive(&section(1, cut)), Answer::Refused(Refusal::IpHeader));
 ///
+/// // Sections may have been lost between the two.
 /// assert_eq!(receiver.receive(&section(0, first)), Answer::Stored);
 /// receiver.gap();
 /// assert_eq!(receiver.receive(&section(1, rest)), Answer::Refused(Refusal::Continuation));
