@@ -99,9 +99,10 @@ fn nearly_right(random: &mut Random, receiver: &mut Receiver) -> Event {
         Some((_, stated)) if random.one_in(3) => any_last_length(random, stated, held.len()),
         _ => any_payload_length(random, left),
     };
-    let payload = match run.llc_snap {
-        true => random.repeated(payload_length),
-        false => going_on(random, held, payload_length),
+    let payload = if run.llc_snap {
+        random.repeated(payload_length)
+    } else {
+        going_on(random, held, payload_length)
     };
     let mut section = nearly_continuing(random, &receiver.settings, &run, &payload);
     if random.one_in(24) {

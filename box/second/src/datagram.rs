@@ -38,13 +38,12 @@ fn number_at(bytes: &[u8], offset: usize) -> usize {
 #[cfg(test)]
 mod tests {
     use super::unit_length;
+    use crate::generator::datagrams::beginning;
 
-    /// Bytes whose first six are given, and the rest of a value that states nothing.
-    fn beginning(start: [u8; 6], length: usize) -> Vec<u8> {
-        let mut bytes = vec![0xEE; length];
-        let common = length.min(6);
-        bytes[..common].copy_from_slice(&start[..common]);
-        bytes
+    /// The unit's length without LLC/SNAP, of that many bytes that begin so; the rest of them would
+    /// state more than there is.
+    fn unit_length_of(start: [u8; 6], length: usize) -> Option<usize> {
+        unit_length(false, &beginning(&start, vec![0xEE; length]))
     }
 
     #[test]
@@ -52,11 +51,11 @@ mod tests {
         for joined in 0..=300 {
             for stated in 0..=600_u16 {
                 let [high, low] = stated.to_be_bytes();
-                let bytes = beginning([0x45, 0xEE, high, low, 0xEE, 0xEE], joined);
+                let unit = unit_length_of([0x45, 0xEE, high, low, 0xEE, 0xEE], joined);
                 let length = usize::from(stated);
                 let is_there = length >= 20 && length <= joined;
                 let expected = is_there.then_some(length);
-                assert_eq!(unit_length(false, &bytes), expected, "{stated} of {joined}");
+                assert_eq!(unit, expected, "{stated} of {joined}");
             }
         }
     }
@@ -66,10 +65,10 @@ mod tests {
         for joined in 0..=340 {
             for stated in 0..=600_u16 {
                 let [high, low] = stated.to_be_bytes();
-                let bytes = beginning([0x60, 0xEE, 0xEE, 0xEE, high, low], joined);
+                let unit = unit_length_of([0x60, 0xEE, 0xEE, 0xEE, high, low], joined);
                 let length = 40 + usize::from(stated);
                 let expected = (length <= joined).then_some(length);
-                assert_eq!(unit_length(false, &bytes), expected, "{stated} of {joined}");
+                assert_eq!(unit, expected, "{stated} of {joined}");
             }
         }
     }
@@ -77,30 +76,25 @@ mod tests {
     #[test]
     fn the_longest() {
         // READINGS B3: 40 + 65,535 is above any unit, and not 39.
-        let joined = 65_535;
-        let version_4 = |high, low| beginning([0x45, 0, high, low, 0, 0], joined);
-        let version_6 = |high, low| beginning([0x60, 0, 0, 0, high, low], joined);
-        assert_eq!(unit_length(false, &version_4(0xFF, 0xFF)), Some(joined));
-        assert_eq!(unit_length(false, &version_6(0xFF, 0xD7)), Some(joined));
-        assert_eq!(unit_length(false, &version_6(0xFF, 0xD8)), None);
-        assert_eq!(unit_length(false, &version_6(0xFF, 0xFF)), None);
-        assert_eq!(
-            unit_length(false, &version_4(0xFF, 0xFF)[..65_534]),
-            None,
-            "one byte short"
-        );
+        let version_4 = |length| unit_length_of([0x45, 0, 0xFF, 0xFF, 0, 0], length);
+        let version_6 = |low| unit_length_of([0x60, 0, 0, 0, 0xFF, low], 65_535);
+        assert_eq!(version_4(65_535), Some(65_535));
+        assert_eq!(version_4(65_534), None);
+        assert_eq!(version_6(0xD7), Some(65_535));
+        assert_eq!(version_6(0xD8), None);
+        assert_eq!(version_6(0xFF), None);
     }
 
     #[test]
     fn no_other_version_and_any_header_length() {
         for first in 0..=0xFF {
-            let bytes = beginning([first, 0, 0, 30, 0, 10], 60);
+            let unit = unit_length_of([first, 0, 0, 30, 0, 10], 60);
             let expected = match first >> 4 {
                 4 => Some(30),
                 6 => Some(50),
                 _ => None,
             };
-            assert_eq!(unit_length(false, &bytes), expected, "{first:02X}");
+            assert_eq!(unit, expected, "{first:02X}");
         }
     }
 
@@ -108,7 +102,7 @@ mod tests {
     fn all_of_it_with_the_flag() {
         for length in [0, 1, 19, 20, 39, 40, 65_535] {
             for first in [0x00, 0x45, 0x60, 0xAA] {
-                let bytes = beginning([first, 0, 0, 20, 0, 0], length);
+                let bytes = beginning(&[first, 0, 0, 20, 0, 0], vec![0; length]);
                 assert_eq!(unit_length(true, &bytes), Some(length));
             }
         }

@@ -71,11 +71,12 @@ impl Delivered {
             _ => before.map_or(0, |run| run.filled),
         };
         let joined_length = filled + section.payload().len();
-        *match section.llc_snap_flag() {
+        let kind = match section.llc_snap_flag() {
             1 => &mut self.flagged,
             _ if answer.length == joined_length => &mut self.exact,
             _ => &mut self.stuffed,
-        } += 1;
+        };
+        *kind += 1;
     }
 
     /// There are so many of each kind, or more.

@@ -1,5 +1,5 @@
 //! Inputs that tell apart how the papers may be read, each with what has to be answered: the samples
-//! of 01, and those that READINGS gives.
+//! of 01, those that READINGS gives, and for some requests of 02 all that stand around an edge.
 
 mod notification;
 mod packet;

@@ -32,6 +32,13 @@ fn put(bytes: &mut [u8], offset: usize, number: usize) {
     bytes[offset..offset + 2].copy_from_slice(&number.to_be_bytes());
 }
 
+/// `bytes` with others at the start, as far as there is room for them.
+pub fn beginning(start: &[u8], mut bytes: Vec<u8>) -> Vec<u8> {
+    let length = start.len().min(bytes.len());
+    bytes[..length].copy_from_slice(&start[..length]);
+    bytes
+}
+
 /// 20 to 65,535 bytes, all 0 but version, header length and total length.
 pub fn bare_ipv4(length: usize) -> Vec<u8> {
     let mut datagram = vec![0; length];

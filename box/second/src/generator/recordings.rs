@@ -202,9 +202,10 @@ fn sixteen_sections(random: &mut Random) -> Vec<u8> {
         for number in 0..=last {
             let payload = &joined[payload_length * usize::from(number)..][..payload_length];
             let section = sound(OURS, number, last, payload);
-            recording.extend(match llc_snap {
-                true => with_llc_snap(&section),
-                false => section,
+            recording.extend(if llc_snap {
+                with_llc_snap(&section)
+            } else {
+                section
             });
         }
     }

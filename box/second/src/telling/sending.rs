@@ -1,6 +1,6 @@
 //! Units for the sender.
 
-use crate::generator::datagrams::{bare_ipv4, bare_ipv6};
+use crate::generator::datagrams::{bare_ipv4, bare_ipv6, beginning};
 use crate::generator::{sound, with_llc_snap, OURS};
 use crate::listing::SETTINGS;
 use crate::receiver::Settings;
@@ -137,13 +137,6 @@ fn refusals() -> Vec<Sending> {
         Sending { output_length: 4_112, output: vec![0; 4_112], ..sending("53: one byte short", Some(4_080), bare_ipv4(4_081), (53, 0)) },
         Sending { output_length: 4_113, ..sending("53: exactly enough", Some(4_080), bare_ipv4(4_081), (0, 4_113)) },
     ]
-}
-
-/// `unit` with other bytes at its start.
-fn beginning(start: &[u8], mut unit: Vec<u8>) -> Vec<u8> {
-    let common = start.len().min(unit.len());
-    unit[..common].copy_from_slice(&start[..common]);
-    unit
 }
 
 /// Without LLC/SNAP a unit is one datagram and nothing more; with it, any bytes.

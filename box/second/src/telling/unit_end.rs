@@ -1,11 +1,12 @@
 //! Rows for the receiver about where a unit ends (02, request 3; READINGS A32, B2 to B6).
 
 use super::row::{changed, cut, open_run, ours, row, Row};
-use crate::generator::datagrams::{bare_ipv4, bare_ipv6, udp_over_ipv4, udp_over_ipv6};
+use crate::generator::datagrams::{bare_ipv4, bare_ipv6, beginning, udp_over_ipv4, udp_over_ipv6};
 use crate::generator::{with_byte, with_llc_snap};
 use crate::listing::SETTINGS;
 use crate::receiver::Settings;
-use crate::row::Event::{self, Gap};
+use crate::row::Event::{self, Gap, Section};
+use crate::section::SHORTEST;
 
 /// All of them.
 pub(super) fn rows() -> Vec<Row> {
@@ -52,12 +53,6 @@ fn by_lengths(
         left,
         ..row(source, cut(joined, lengths), &answers)
     }
-}
-
-/// `joined` with other bytes at its start.
-fn beginning(start: &[u8], mut joined: Vec<u8>) -> Vec<u8> {
-    joined[..start.len()].copy_from_slice(start);
-    joined
 }
 
 /// `datagram` and that many bytes of stuffing.
@@ -208,7 +203,7 @@ fn with_the_flag() -> Vec<Row> {
 /// The length of all payloads of the row.
 fn joined_length(events: &[Event]) -> usize {
     let lengths = events.iter().map(|event| match event {
-        Event::Section(bytes) => bytes.len() - crate::section::SHORTEST,
+        Section(bytes) => bytes.len() - SHORTEST,
         Gap => 0,
     });
     lengths.sum()
@@ -234,16 +229,14 @@ fn stated_lengths() -> Vec<Row> {
     for joined in [1, 2, 3, 4, 5, 6, 19, 20, 21, 38, 39, 40, 41, 42, 60] {
         for stated in (0..=joined + 2).chain([256 + 20, 256 * 20, 65_535]) {
             let [high, low] = (stated as u16).to_be_bytes();
-            let mut version_4 = vec![0x45, 0, high, low];
-            let mut version_6 = vec![0x60, 0, 0, 0, high, low];
-            version_4.resize(joined, 0);
-            version_6.resize(joined, 0);
-            for (joined, header, length) in [(version_4, 20, stated), (version_6, 40, 40 + stated)]
-            {
-                let is_there = header <= length && length <= joined.len();
+            for (start, header, length) in [
+                ([0x45, 0, high, low, 0, 0], 20, stated),
+                ([0x60, 0, 0, 0, high, low], 40, 40 + stated),
+            ] {
+                let is_there = header <= length && length <= joined;
                 let answer = if is_there { (0, length) } else { (25, 0) };
-                let source = format!("02, request 3: stated {length} of {}", joined.len());
-                rows.push(alone(source, &joined, answer));
+                let source = format!("02, request 3: stated {length} of {joined}");
+                rows.push(alone(source, &beginning(&start, vec![0; joined]), answer));
             }
         }
     }
@@ -267,39 +260,38 @@ fn trailing_stuffing() -> Vec<Row> {
     rows
 }
 
-/// Headers cut at every byte from 1 to 40 over two and three sections, without and with empty sections
-/// between and after them, whole and one byte short.
+/// Headers cut at every byte from 1 to 40 over two and three sections.
 fn cuts() -> Vec<Row> {
     let mut rows = Vec::new();
     for datagram in [udp_over_ipv4(&[b'4'; 32]), udp_over_ipv6(&[b'6'; 12])] {
         for first in 1..=40 {
-            for second in first..=40 {
-                let lengths = [first, second - first, datagram.len() - second];
-                let between = [first, 0, second - first, 0, 0, datagram.len() - second];
-                let after = [0, first, second - first, datagram.len() - second, 0];
-                for lengths in [&lengths[..], &between, &after] {
-                    rows.extend(whole_and_short(&datagram, lengths));
-                }
+            rows.extend(cut_at(&datagram, &[first]));
+            for second in first + 1..=40 {
+                rows.extend(cut_at(&datagram, &[first, second]));
             }
         }
     }
     rows
 }
 
-/// The datagram by sections of these lengths is delivered; without its last byte it gets 25.
-fn whole_and_short(datagram: &[u8], lengths: &[usize]) -> [Row; 2] {
-    let length = datagram.len();
-    let mut short = lengths.to_vec();
-    let last_byte = short.iter_mut().rev().find(|length| **length > 0);
-    *last_byte.expect("a payload that is not empty") -= 1;
-    let source = |what| format!("B2: version {}, {what}, cut {lengths:?}", datagram[0] >> 4);
-    [
-        by_lengths(source("whole"), datagram, lengths, (0, length)),
-        by_lengths(
-            source("one byte short"),
-            &datagram[..length - 1],
-            &short,
-            (25, 0),
-        ),
-    ]
+/// The datagram cut at these bytes: without empty sections, with one at each cut, and with some
+/// before and after them all. It is delivered, and without its last byte gets 25.
+fn cut_at(datagram: &[u8], cuts: &[usize]) -> Vec<Row> {
+    let mut rows = Vec::new();
+    let whole = datagram.len();
+    for (length, answer) in [(whole, (0, whole)), (whole - 1, (25, 0))] {
+        let starts = [&[0], cuts].concat();
+        let ends = [cuts, &[length]].concat();
+        let lengths = starts.iter().zip(ends).map(|(start, end)| [end - start]);
+        let lengths: Vec<_> = lengths.collect();
+        let between = lengths.join(&0);
+        let around = [&[0], &lengths.concat()[..], &[0, 0]].concat();
+        for lengths in [lengths.concat(), between, around] {
+            let version = datagram[0] >> 4;
+            let source =
+                format!("B2: {length} of {whole} bytes, version {version}, in {lengths:?}");
+            rows.push(by_lengths(source, &datagram[..length], &lengths, answer));
+        }
+    }
+    rows
 }
