@@ -223,49 +223,44 @@ mod tests {
         }
     }
 
+    /// An open run of the fewest sections, with as much filled as can be.
+    const GOOD: Run = Run {
+        next: 1,
+        last: 1,
+        filled: 4_080,
+        llc_snap: false,
+        address: SETTINGS.address,
+    };
+
     #[test]
     fn good_states() {
-        let good = Run {
-            next: 1,
-            last: 1,
-            filled: 4_080,
-            llc_snap: false,
-            address: SETTINGS.address,
+        let of = |next, last, filled| Run {
+            next,
+            last,
+            filled,
+            ..GOOD
         };
-        assert!(good.is_good(&SETTINGS));
-        assert!(Run {
-            next: 254,
-            last: 254,
-            filled: 65_535,
-            ..good
+        for good in [GOOD, of(254, 254, 65_535)] {
+            assert!(good.is_good(&SETTINGS), "{good:?}");
         }
-        .is_good(&SETTINGS));
         for bad in [
-            Run { next: 0, ..good },
-            Run { next: 2, ..good },
-            Run { last: 255, ..good },
-            Run {
-                filled: 4_081,
-                ..good
-            },
-            Run {
-                next: 17,
-                last: 17,
-                filled: 65_536,
-                ..good
-            },
-            Run {
-                next: usize::MAX,
-                last: usize::MAX,
-                ..good
-            },
+            of(0, 1, 4_080),
+            of(2, 1, 4_080),
+            of(1, 255, 4_080),
+            of(1, 1, 4_081),
+            of(17, 17, 65_536),
+            of(usize::MAX, usize::MAX, 4_080),
         ] {
             assert!(!bad.is_good(&SETTINGS), "{bad:?}");
         }
+    }
+
+    #[test]
+    fn a_kept_address_is_ours_where_compared() {
         for range in 1..=6 {
             let settings = Settings { range, ..SETTINGS };
             for place in 0..6 {
-                let mut kept = good;
+                let mut kept = GOOD;
                 kept.address[place] ^= 1;
                 let is_compared = place >= 6 - range;
                 assert_eq!(kept.is_good(&settings), !is_compared, "{place} of {range}");

@@ -71,7 +71,7 @@ pub(super) fn row(source: impl Into<String>, events: Vec<Event>, answers: &[(u8,
     }
 }
 
-/// A run for us without LLC/SNAP, with these payload lengths, which together are the joined ones'.
+/// The joined payloads as a run for us without LLC/SNAP, by sections whose payloads have these lengths.
 pub(super) fn cut(joined: &[u8], lengths: &[usize]) -> Vec<Event> {
     let last = lengths.len() as u8 - 1;
     let mut rest = joined;
@@ -93,7 +93,7 @@ pub(super) fn changed(event: &Event, change: impl Fn(&[u8]) -> Vec<u8>) -> Event
     }
 }
 
-/// A sound section for us whose payload, of that length, is never delivered.
+/// A sound section for us with that many bytes 55 as payload, with which no datagram begins.
 pub(super) fn ours(section_number: u8, last_section_number: u8, payload_length: usize) -> Event {
     let payload = vec![0x55; payload_length];
     Section(sound(OURS, section_number, last_section_number, &payload))
