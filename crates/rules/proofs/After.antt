@@ -1,5 +1,5 @@
 -- Each outcome that the tables reach has what goes with its number: a refusal, what is passed by, and what is kept.
-use Prim.Native.Nat.{ℕ, _+_, _≤_}
+use Prim.Native.Nat.{ℕ, _+_, _≤_, _<_}
 use native.Mathlib.Decide.{ℕ-discrete}
 use native.Mathlib.Omega.{arith}
 use mathlib.Core.Path.{_≡_, refl, ap, _∙_}
@@ -40,6 +40,9 @@ pub record Refusing (n : ℕ) : Type 0 where
   pub one : n ≢ 1
   pub zero : n ≢ 0
 
+refusing : (n : ℕ) → 2 < n → Refusing n
+refusing n h = record { two = λ z. omega arith; one = λ z. omega arith; zero = λ z. omega arith }
+
 -- what holds of every refusal, of what is passed by and of what is kept holds of the step
 module _ (σ : State) (s b : List ℕ) (P : Outcome → Type 0) (refused : (n : ℕ) → Refusing n → P (refuse n b))
     (passed : P (outcome PassedBy σ b))
@@ -63,13 +66,13 @@ module _ (σ : State) (s b : List ℕ) (P : Outcome → Type 0) (refused : (n : 
 
   nowhere : P (lay Nowhere s b)
   unfolding lay
-  nowhere = refused 22 (record { two = λ z. omega arith; one = λ z. omega arith; zero = λ z. omega arith })
+  nowhere = refused 22 (refusing 22 (omega arith))
 
   by-room : (f : ℕ) → filledBefore σ (byteAt s 6) ≡ f → P (lay (From f) s b)
   unfolding lay
   by-room f e =
       pick-case P _ _ _ (λ t. kept f e (leb-true _ _ t))
-      (λ _. refused 23 (record { two = λ z. omega arith; one = λ z. omega arith; zero = λ z. omega arith }))
+      (λ _. refused 23 (refusing 23 (omega arith)))
 
   by-run : (τ : State) → σ ≡ τ → byteAt s 6 ≢ 0 → P (lay (onward τ s) s b)
   unfolding onward pick
@@ -141,7 +144,7 @@ kept-after σ s b f e = rw (laid-is f s b, stored-is s, ← e) (go (eqb (byteAt 
           kept = λ e. absurd (omega arith);
           delivered = λ _. (unit-ends (eqb (bit 1 (byteAt s 5)) 1) (joinedUp σ s b) n .0 q, refl, refl);
         }
-    go true NoEnd q = refused-after σ s b 25 (record { two = λ z. omega arith; one = λ z. omega arith; zero = λ z. omega arith })
+    go true NoEnd q = refused-after σ s b 25 (refusing 25 (omega arith))
     go false end q =
         record {
           refused = λ _ e _. absurd (e refl);
@@ -189,7 +192,7 @@ kept-named f s b = pick-case Named _ _ _ (λ _. go (unitEnd (llcSnapFlag s) (joi
   where
     go : (end : End) → Named (upTo end b (laid f s b))
     go (At n) = delivered-named n
-    go NoEnd = refused-named b 25 (record { two = λ z. omega arith; one = λ z. omega arith; zero = λ z. omega arith })
+    go NoEnd = refused-named b 25 (refusing 25 (omega arith))
 
 pub receiver-names : ReceiverNames
 receiver-names c σ s b = by-step σ s b Named (refused-named b) passed-named (λ f _ _. kept-named f s b) c

@@ -19,9 +19,9 @@ fn byte_over(head: &[u8], tail: &[u8], i: usize) -> u8
     byte_at(tail, i - head.len())
 }
 
-// The number of two bytes at i, which is a place in a header.
+// The number of two bytes at i, where a header has a length.
 fn u16_over(head: &[u8], tail: &[u8], i: usize) -> usize
-    requires { ⌜ i ≤ 40 ⌝ }
+    requires { ⌜ i ≤ 4 ⌝ }
     ensures { λ r. ⌜ Reads (numberAt 2 (now (head .entry) ++ now (tail .entry)) i) 65536 r ⌝ }
 {
     byte_over(head, tail, i) as usize * 256 + byte_over(head, tail, i + 1) as usize
