@@ -68,5 +68,5 @@ pub record Demand3 : Type 0 where
   pub strikes : (c : Settings) → CanBeStruck c
   pub only : (c : Settings) (b : List ℕ) → OnlyOne c b
   pub once : (c : Settings) (b : List ℕ) → Once c b
-  -- whatever the code holds
+  -- whatever the code holds, what it hands over without LLC/SNAP is never longer nor shorter than its own IP header says
   pub own : (c : Settings) (h : Held) (s : List ℕ) (k : Held) (d : Handed) → Given c h (section s) k d → OwnLength s d
