@@ -1,5 +1,5 @@
--- Document 02, request 7, of the real contracts: where no piece size is given and none of 10, 51 and 54 applies, a unit gets 52
--- exactly where it is longer than 1,008 bytes for each section of the limit, and no section has more than 1,024 bytes. The words are in rules/specs/Pieces.antt.
+-- Document 02, request 7, of the real contracts: where no piece size is given and none of 10, 51 and 54 applies, a unit gets 52 exactly where
+-- it is longer than 1,008 bytes for each section of the limit, and no section has more than 1,024 bytes. The words are in rules/specs/Pieces.antt.
 use denote.Ref.{now}
 use Rattle.rules.specs.Pieces.{SmallSections}
 use Rattle.rules.specs.Send.{sendingLength, sendingNumber}
