@@ -1,4 +1,6 @@
 // The paper's numbers of the receiver's and the sender's answers, and the length that goes with each.
+#![tactic(auto)]
+
 ghost use Rattle.std.specs.Prelude.{◌≡◌};
 ghost use Rattle.rules.specs.Send.{sending_number, sending_length};
 ghost use Rattle.rules.specs.Step.{number_of, length_of};

@@ -1,5 +1,7 @@
 // The archive sender of document 01: all of standard input is one unit, an IP datagram, whose sections go to standard output; where it is
 // refused, only the refusal's number goes to the error output.
+#![tactic(auto)]
+
 ghost use Rattle.std.specs.Prelude.{◌≡◌};
 ghost use Rattle.stream.specs.Words.{Filled};
 ghost use Rattle.archive.specs.Archive.{Says, Archived, archived_of, failure_of};

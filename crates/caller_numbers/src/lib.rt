@@ -1,4 +1,6 @@
 // Settings as numbers, and a receiver's state as bytes.
+#![tactic(auto)]
+
 ghost use Rattle.std.specs.Prelude.{◌≡◌};
 ghost use Rattle.caller_numbers.specs.Numbers.{address_of, settings_of, state_of, state_bytes};
 

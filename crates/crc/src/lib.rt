@@ -1,5 +1,7 @@
 // CRC_32 of ISO/IEC 13818-1 with no table. A word of 64 bits may be taken away if it is added to later words as a
 // multiple of the polynomial says, and multiples with few terms make that a few shifts.
+#![tactic(auto)]
+
 ghost use Rattle.std.specs.Prelude.{◌≡◌, ◌∷◌, [], ◌≤◌, ◌<◌, ◌^◌, length};
 ghost use Rattle.std.specs.Int.Bits.{bit_xor};
 ghost use Rattle.rules.specs.Crc.{crc_bits, crc32};

@@ -1,1 +1,2 @@
 // Theorems about the real contracts of the functions that are open to callers; nothing here runs.
+#![tactic(auto)]

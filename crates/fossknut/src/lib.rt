@@ -1,4 +1,6 @@
 // What the Rust box links: functions on numbers and bytes only. A slice passes as a pointer and then a length, sixteen bytes as a pointer.
+#![tactic(auto)]
+
 ghost use Rattle.std.specs.Prelude.{◌≡◌};
 ghost use Rattle.rules.specs.Check.{check};
 ghost use Rattle.rules.specs.Crc.{crc32};

@@ -1,5 +1,7 @@
 // Cuts standard input into offers, gives each to the receiver, and writes a line for each: offset, answer, unit length.
 // Document 01, 'Listing'.
+#![tactic(auto)]
+
 ghost use Rattle.std.specs.Prelude.{◌≡◌, ℕ, ◌+◌, ◌^◌, ◌<◌, ◌≤◌, true, false, List, [], ◌∷◌, ◌++◌, length, take, drop, replicate};
 ghost use Rattle.listing.specs.Text.{decimal, field, line};
 ghost use Rattle.wire.specs.Puts.{Puts};
@@ -17,7 +19,7 @@ use stream::{Failure, Input};
 // The bytes at hand are start..end of the input's buffer, the first of them is number `offset` of the input, and the output's
 // buffer holds `out` bytes of whole lines. over: the input has ended; done: all of it is offered; unreadable: a read failed, which
 // ends the input too; failed: a write failed.
-#[derive(Drop)]
+#[derive(Clone, Copy)]
 struct Walk {
     start: usize,
     end: usize,

@@ -1,4 +1,6 @@
 // The INT reader: what a device finds in an INT section, for every slice of every length.
+#![tactic(auto)]
+
 mod location;
 mod loops;
 mod range;
@@ -120,7 +122,7 @@ fn search(device: Address, s: &[u8], from: usize, general: bool) -> usize
 }
 
 // What the search gives: a refusal, no pair that answers, or the offset of the operational loop of the first that does.
-#[derive(Drop)]
+#[derive(Clone, Copy)]
 enum Sought {
     Refusal(u8),
     NoPair,

@@ -6,7 +6,7 @@ use crate::loops::{after, descriptor_size};
 use wire::byte_at;
 
 // Which of two loops has the location, and where in what it holds the nine bytes begin.
-#[derive(Drop)]
+#[derive(Clone, Copy)]
 pub enum Choice {
     Own(usize),
     Platform(usize),

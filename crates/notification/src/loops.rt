@@ -9,7 +9,7 @@ use wire::byte_at;
 
 // How loops and descriptors fill bytes: exactly; with a known descriptor of another length (33); not exactly (32). Each is worse than the
 // one before it, and the worst that was met is handed on to the end.
-#[derive(Drop)]
+#[derive(Clone, Copy)]
 pub enum Fit {
     Exact,
     OtherLength,

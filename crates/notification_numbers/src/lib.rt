@@ -1,4 +1,6 @@
 // The paper's numbers of the INT reader's answers, and the offset that goes with each.
+#![tactic(auto)]
+
 ghost use Rattle.std.specs.Prelude.{◌≡◌};
 ghost use Rattle.notification_rules.specs.Finding.{finding_number, finding_offset};
 

@@ -1,7 +1,8 @@
 // What the INT reader answers. What it means is in specs/, the laws in proofs/; nothing here runs.
+#![tactic(auto)]
 
 // The offset of the nine bytes in the section, nobody, or the number of the first refusal that applies.
-#[derive(Drop)]
+#[derive(Clone, Copy)]
 pub enum Finding {
     Found(usize),
     Nobody,

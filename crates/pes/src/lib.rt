@@ -1,4 +1,6 @@
 // The PES data packet reader: document 01, 'The PES data packet', for every slice of every length.
+#![tactic(auto)]
+
 ghost use Rattle.std.specs.Prelude.{◌≡◌, ◌+◌};
 ghost use Rattle.wire.specs.Bytes.{Reads};
 ghost use Rattle.wire.specs.Part.{Is};

@@ -1,5 +1,7 @@
 // One step of the receiver, and the gap notice: document 01, 'The receiver'; document 02, requests 3 and 5. The letters are the paper's: f
 // is the filled length.
+#![tactic(auto)]
+
 ghost use Rattle.std.specs.Prelude.{◌≡◌, List, ℕ, ◌+◌, ◌≤◌, length, leb};
 ghost use Rattle.wire.specs.Choice.{first_of};
 ghost use Rattle.rules.specs.Section.{payload};

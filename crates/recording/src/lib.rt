@@ -1,4 +1,6 @@
 // A recording: how it is cut into offers, and the settings that the programs read and write it with. Document 01, 'Listing'.
+#![tactic(auto)]
+
 ghost use Rattle.std.specs.Prelude.{◌≡◌};
 ghost use Rattle.rules.specs.Recording.{listing_settings, offer_length};
 

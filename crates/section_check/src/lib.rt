@@ -1,5 +1,7 @@
 // Whether a section is sound: the numbers 12 to 19 of document 01, in its order, and 24 of document 02 at 15's place, for every slice of every
 // length.
+#![tactic(auto)]
+
 ghost use Rattle.std.specs.Prelude.{◌≡◌};
 ghost use Rattle.wire.specs.Choice.{first_of};
 ghost use Rattle.rules.specs.Check.{too_short, other_table, wrong_length, checksum_form, wrong_syntax, wrong_crc, not_current, out_of_order, address_scrambled, form_lines, order_lines, shared_refusal, datagram_form, check};

@@ -1,4 +1,6 @@
 // The fields of a datagram section (EN 301 192, table 3), in the table's order, read from any slice: a byte that it does not have is 0.
+#![tactic(auto)]
+
 ghost use Rattle.std.specs.Prelude.{◌≡◌};
 ghost use Rattle.wire.specs.Bytes.{Reads};
 ghost use Rattle.wire.specs.Part.{part, Is};

@@ -1,4 +1,6 @@
 // What a sender writes before the payload and after it.
+#![tactic(auto)]
+
 ghost use Rattle.std.specs.Prelude.{◌≡◌};
 ghost use Rattle.rules.specs.Section.{header};
 ghost use Rattle.wire.specs.Choice.{pick};

@@ -1,5 +1,7 @@
 // The sender of document 01, and document 02, requests 3 and 7: cuts a unit into sections, which stand back to back from the start of the
 // output, or refuses it.
+#![tactic(auto)]
+
 ghost use mathlib.Core.List.{flatten};
 ghost use Rattle.std.specs.Prelude.{◌≡◌, ◌+◌, ◌≤◌, leb, length};
 ghost use Rattle.wire.specs.Bytes.{Reads};
@@ -43,7 +45,7 @@ fn section_count(size: usize, unit: &[u8]) -> usize
 }
 
 // What is done with a unit: it is refused with a number, or cut into so many sections.
-#[derive(Drop)]
+#[derive(Clone, Copy)]
 enum Plan {
     Refused(u8),
     Cut(usize),

@@ -1,4 +1,6 @@
 // A receiver's settings: whether they can be used (number 10 of document 01), and which addresses they take for their own.
+#![tactic(auto)]
+
 ghost use Rattle.std.specs.Prelude.{◌≡◌};
 ghost use Rattle.rules.specs.Address.{agree, same_address};
 ghost use Rattle.rules.specs.Step.{good_settings};

@@ -1,5 +1,7 @@
 // Standard input, standard output and the error output for the programs: a call that cannot move a byte yet is made again, and what
 // failed is told in one word. What the system moves cannot be said in a contract: a contract says what was answered and handed over.
+#![tactic(auto)]
+
 ghost use Rattle.std.specs.Prelude.{◌≡◌, true, length};
 ghost use Rattle.io.specs.Counts.{IsPrefixLen};
 ghost use Rattle.stream.specs.Words.{Filled, word_of};
@@ -8,14 +10,14 @@ use libc::STDIN_FILENO;
 use libc::types::timespec;
 
 // What a read gave: so many bytes at the start of the buffer, 0 at the end of the input, or nothing, since it failed.
-#[derive(Drop)]
+#[derive(Clone, Copy)]
 pub enum Input {
     Bytes(usize),
     Unreadable,
 }
 
 // Why a program's work is not done.
-#[derive(Drop)]
+#[derive(Clone, Copy)]
 pub enum Failure {
     Nothing,
     Reading,

@@ -1,5 +1,7 @@
 // Where a unit ends: document 02, request 3. Its bytes may lie in two parts, those stored before and those that have just come; the header is
 // read where they lie, on either side of the cut or on both.
+#![tactic(auto)]
+
 ghost use Rattle.std.specs.Prelude.{◌≡◌, ◌++◌, ◌≤◌};
 ghost use Rattle.wire.specs.Bytes.{byte_at, number_at, Reads};
 ghost use Rattle.rules.specs.UnitEnd.{version, end_within, datagram_end, unit_end};

@@ -1,5 +1,7 @@
 // Runs published vectors of CRC_32 and the samples of document 01 that are not proved, and prints a line for each; an independent
 // second program prints the same lines. A vector is cited where it is given.
+#![tactic(auto)]
+
 ghost use Rattle.std.specs.Prelude.{◌≡◌, ◌<◌, length};
 ghost use Rattle.rules.specs.Recording.{offers};
 ghost use Rattle.vectors.specs.Text.{digit, word};

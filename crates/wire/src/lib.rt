@@ -1,4 +1,6 @@
 // The bytes and the choices that every other crate uses. Each function takes every input: what stands past a slice's end is 0.
+#![tactic(auto)]
+
 ghost use Rattle.std.specs.Prelude.{◌≡◌, min};
 ghost use Rattle.wire.specs.Bytes.{byte_at, bytes_of, number_at, over, Reads};
 ghost use Rattle.wire.specs.Choice.{both, either, first};
