@@ -167,7 +167,8 @@ sent a llc_snap number last p =
 
 pub sent_is : (a : Address) (llc_snap : Bool) (number last : ℕ) (p : List ℕ) → section_of a llc_snap number last p ≡ table3 (sent a llc_snap number last p)
 unfolding section_of header table3 pick
-sent_is a llc_snap number last p = elim llc_snap [ true ↦ refl | false ↦ refl ]
+sent_is a true number last p = refl
+sent_is a false number last p = refl
 
 pub sent_limits : (a : Address) (llc_snap : Bool) (number last : ℕ) (p : List ℕ) → number ≤ last → length p ≤ 4080 → Limits (sent a llc_snap number last p)
 sent_limits a llc_snap number last p h k =
