@@ -134,7 +134,7 @@ any_one write f g (x ∷ xs) h =
 
 all_long : {A : Type 0} (write : A → List ℕ) (n : ℕ) → ((x : A) → length (write x) ≡ n) → (xs : List A) (e : List ℕ)
     → Memᴰ e (map write xs) → length e ≡ n
-all_long write n h [] e m = absurd (Memᴰ.not_nil m)
+all_long write n h [] e m = absurd (Memᴰ.not-nil m)
 all_long write n h (x ∷ xs) e m = go (all_long write n h xs e) (Memᴰ.cases_cons m)
   where
     go : (Memᴰ e (map write xs) → length e ≡ n) → (e ≡ write x) ⊎ Memᴰ e (map write xs) → length e ≡ n

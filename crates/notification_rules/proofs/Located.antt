@@ -33,8 +33,8 @@ located_one (x ∷ xs) d h = go (eqb (tag x.bytes) stream_location) refl h (loca
 
 pub operational_one : (ls : List Part) (x : Pair) → Memᴰ x (pairs_of ls) → Memᴰ x.operational ls
 unfolding pairs_of
-operational_one [] x m = absurd (Memᴰ.not_nil m)
-operational_one (t ∷ []) x m = absurd (Memᴰ.not_nil m)
+operational_one [] x m = absurd (Memᴰ.not-nil m)
+operational_one (t ∷ []) x m = absurd (Memᴰ.not-nil m)
 operational_one (t ∷ o ∷ ls) x m = go (Memᴰ.cases_cons m) (operational_one ls x)
   where
     go : (x ≡ record { target = t; operational = o }) ⊎ Memᴰ x (pairs_of ls)

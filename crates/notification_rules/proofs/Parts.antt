@@ -45,7 +45,7 @@ rejoined size =
 item_long : (size : Size) → ((s : List ℕ) → size (take (size s) s) ≡ size s) → (s d : List ℕ) → Memᴰ d (cut_of size s).items
     → length d ≡ size d
 item_long size own s d =
-    induct size (λ s c. Memᴰ d c.items → length d ≡ size d) (λ s h m. absurd (Memᴰ.not_nil m))
+    induct size (λ s c. Memᴰ d c.items → length d ≡ size d) (λ s h m. absurd (Memᴰ.not-nil m))
     (λ s h ih m. go s h ih (Memᴰ.cases_cons m)) s
   where
     go : (s : List ℕ) → whole size s ≡ true → (Memᴰ d (cut_of size (drop (size s) s)).items → length d ≡ size d)
@@ -73,7 +73,7 @@ loop_long = item_long loop_size own
 -- ---- members
 pub every_one : {A : Type 0} (f : A → Bool) (xs : List A) (x : A) → every f xs ≡ true → Memᴰ x xs → f x ≡ true
 unfolding every both
-every_one f [] x h m = absurd (Memᴰ.not_nil m)
+every_one f [] x h m = absurd (Memᴰ.not-nil m)
 every_one f (y ∷ ys) x h m = go (f y) refl h (every_one f ys x) (Memᴰ.cases_cons m)
   where
     go : (b : Bool) → f y ≡ b → both b (every f ys) ≡ true → (every f ys ≡ true → Memᴰ x ys → f x ≡ true)
@@ -84,7 +84,7 @@ every_one f (y ∷ ys) x h m = go (f y) refl h (every_one f ys x) (Memᴰ.cases_
 
 pub offset_member : (o : ℕ) (bs : List (List ℕ)) (p : Part) → Memᴰ p (from_offset o bs) → Memᴰ p.bytes bs
 unfolding from_offset
-offset_member o [] p m = absurd (Memᴰ.not_nil m)
+offset_member o [] p m = absurd (Memᴰ.not-nil m)
 offset_member o (b ∷ bs) p m = go (Memᴰ.cases_cons m) (offset_member (o + length b) bs p)
   where
     go : (p ≡ part o b) ⊎ Memᴰ p (from_offset (o + length b) bs)
@@ -122,7 +122,7 @@ stands_second s o x y t =
 pub offset_stands : (s : List ℕ) (o : ℕ) (bs : List (List ℕ)) (left : List ℕ) (p : Part)
     → Stands s (part o (flatten bs ++ left)) → Memᴰ p (from_offset o bs) → Stands s p
 unfolding from_offset flatten
-offset_stands s o [] left p t m = absurd (Memᴰ.not_nil m)
+offset_stands s o [] left p t m = absurd (Memᴰ.not-nil m)
 offset_stands s o (b ∷ bs) left p t m =
     go (Memᴰ.cases_cons m) (offset_stands s (o + length b) bs left p (stands_second s o b (flatten bs ++ left) whole))
   where

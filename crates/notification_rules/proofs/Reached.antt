@@ -17,14 +17,14 @@ use Rattle.notification_rules.proofs.Answered.{written_is_found}
 use Rattle.notification_rules.proofs.Bytes.{each_bytes}
 
 no_member : {A : Type 0} (good : A → Type 0) (x : A) → Memᴰ x [] → good x
-no_member good x m = absurd (Memᴰ.not_nil m)
+no_member good x m = absurd (Memᴰ.not-nil m)
 
 one_member : {A : Type 0} (good : A → Type 0) (x : A) → good x → (y : A) → Memᴰ y (x ∷ []) → good y
 one_member good x h y m = go (Memᴰ.cases_cons m)
   where
     go : (y ≡ x) ⊎ Memᴰ y [] → good y
     go (inl e) = rw e h
-    go (inr n) = absurd (Memᴰ.not_nil n)
+    go (inr n) = absurd (Memᴰ.not-nil n)
 
 -- the target loop's descriptors and the length are what is left to see
 conforms : (ds : List Descriptor) → ((d : Descriptor) → Memᴰ d ds → Fits d) → length (notification_written (sample ds)) ≤ 4096

@@ -73,7 +73,7 @@ module _ {A : Type 0} (write : A → List ℕ) (good : A → Type 0) (n : ℕ)
     (one : (b : List ℕ) → Bytes b → length b ≡ n → Read write good b) where
   read_all : (k : ℕ) (b : List ℕ) → Bytes b → length b ≡ k * n → Read (λ xs. flatten (map write xs)) (All good) b
   unfolding flatten
-  read_all zero [] h l = record { value = []; is = refl; holds = λ x m. absurd (Memᴰ.not_nil m) }
+  read_all zero [] h l = record { value = []; is = refl; holds = λ x m. absurd (Memᴰ.not-nil m) }
   read_all zero (x ∷ b) h l = absurd (omega arith)
   read_all (suc k) b h l =
       let e : suc k * n ≡ k * n + n = suc-mul k n in
@@ -168,7 +168,7 @@ all_typed : (ds : List (List ℕ)) → ((d : List ℕ) → Memᴰ d ds → lengt
     → ((d : List ℕ) → Memᴰ d ds → right_length (tag d) (body_length d) ≡ true) → Bytes (flatten ds)
     → Read content_written (All Fits) (flatten ds)
 unfolding flatten descriptor_size
-all_typed [] l r h = record { value = []; is = refl; holds = λ x m. absurd (Memᴰ.not_nil m) }
+all_typed [] l r h = record { value = []; is = refl; holds = λ x m. absurd (Memᴰ.not-nil m) }
 all_typed (d ∷ ds) l r h =
     let own = bytes_left d (flatten ds) h in
     let long : length d ≡ descriptor_size d = l d (Memᴰ.head refl) in
@@ -254,7 +254,7 @@ module _ (P : List ℕ → Type 0) (good : Loop → Type 0) (one : (l : List ℕ
   loops_read : (ls : List (List ℕ)) → ((l : List ℕ) → Memᴰ l ls → P l) → Bytes (flatten ls)
       → (xs : List Loop) × (map loop_written xs ≡ ls) × All good xs
   unfolding flatten
-  loops_read [] f h = ([], refl, λ x m. absurd (Memᴰ.not_nil m))
+  loops_read [] f h = ([], refl, λ x m. absurd (Memᴰ.not-nil m))
   loops_read (l ∷ ls) f h =
       let first = one l (bytes_left l (flatten ls) h) (f l (Memᴰ.head refl)) in
       let rest = loops_read ls (λ k m. f k (Memᴰ.tail m)) (bytes_right l (flatten ls) h) in (
@@ -282,7 +282,7 @@ odd_map f (x ∷ xs) = ap not (odd_map f xs)
 
 pairs_all : (good : Loop → Type 0) (ps : List (Loop × Loop)) → All good (by_turns ps) → (p : Loop × Loop) → Memᴰ p ps → good p.0 × good p.1
 unfolding by_turns
-pairs_all good [] f p m = absurd (Memᴰ.not_nil m)
+pairs_all good [] f p m = absurd (Memᴰ.not-nil m)
 pairs_all good (q ∷ ps) f p m = go (pairs_all good ps (λ x k. f x (Memᴰ.tail (Memᴰ.tail k))) p) (Memᴰ.cases_cons m)
   where
     go : (Memᴰ p ps → good p.0 × good p.1) → (p ≡ q) ⊎ Memᴰ p ps → good p.0 × good p.1

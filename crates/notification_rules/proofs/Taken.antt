@@ -126,7 +126,7 @@ turns_odd l (p ∷ ps) = ap (λ (b : Bool). not (not b)) (turns_odd l ps)
 pub turns_all : (good : Loop → Type 0) (ps : List (Loop × Loop)) → ((p : Loop × Loop) → Memᴰ p ps → good p.0 × good p.1)
     → (l : Loop) → Memᴰ l (by_turns ps) → good l
 unfolding by_turns
-turns_all good [] h l m = absurd (Memᴰ.not_nil m)
+turns_all good [] h l m = absurd (Memᴰ.not-nil m)
 turns_all good (p ∷ ps) h l m = go (turns_all good ps (λ q j. h q (Memᴰ.tail j)) l) (Memᴰ.cases_cons m)
   where
     two : (Memᴰ l (by_turns ps) → good l) → (l ≡ p.1) ⊎ Memᴰ l (by_turns ps) → good l
@@ -164,7 +164,7 @@ every_known (l ∷ ls) f = rw (loop_known l (f l (Memᴰ.head refl))) (every_kno
 
 loop_short : (ls : List Loop) (l : Loop) → Memᴰ l ls → 2 + length (content_written l.descriptors) ≤ length (flatten (map loop_written ls))
 unfolding flatten
-loop_short [] l m = absurd (Memᴰ.not_nil m)
+loop_short [] l m = absurd (Memᴰ.not-nil m)
 loop_short (k ∷ ls) l m = go (Memᴰ.cases_cons m) (loop_short ls l)
   where
     go : (l ≡ k) ⊎ Memᴰ l ls → (Memᴰ l ls → 2 + length (content_written l.descriptors) ≤ length (flatten (map loop_written ls)))

@@ -2,7 +2,7 @@
 -- EN 301 192 V1.3.1, clause 7.6, tables 13, 16 to 18, 24, 25 and 32; document 01, 'The INT section'. What is stated is shown in proofs/.
 use Rattle.std.specs.Prelude.{ℕ, zero, suc, ◌+◌, ◌*◌, ◌^◌, ◌≤◌, ◌<◌, ◌≡◌, Bool, true, false, cond, ◌&&◌, ◌||◌, ◌↔◌, ◌⊎◌, ◌≢◌, length, eqb, leb}
 use mathlib.Core.List.{List, [], ◌∷◌, ◌++◌, Memᴰ, flatten, map}
-use Rattle.std.proofs.Math.Option.{Option, none, some, or_else, Option·elim}
+use Rattle.std.proofs.Math.Option.{Option, none, some, or_else, Option-elim}
 use Rattle.std.specs.Int.Bits.{bit_xor}
 use Rattle.wire.specs.Bytes.{Bytes, bytes_of, bit, bits}
 use Rattle.wire.specs.Part.{Part, part}
@@ -209,7 +209,7 @@ refused_with k = record { finding = Refused k; number = k; given = part 0 [] }
 -- the platform loop stands at 12, after it the pairs
 unfoldable pub answer_to : Address → Notification → Answer
 answer_to device n =
-    Option·elim
+    Option-elim
     (location_to (device_number device) (location_in 14 n.platform.descriptors) (12 + length (loop_written n.platform)) n.pairs)
     found_nobody found_at
 
