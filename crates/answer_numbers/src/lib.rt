@@ -8,6 +8,7 @@ ghost use Rattle.rules.specs.Step.{number_of, length_of};
 use rules::{Answer, Sending};
 
 // The number of a receiver's answer.
+#[tactic(auto, unfolding(rules::specs::Step::number_of))]
 pub fn number_of(answer: Answer) -> u8
     ensures { result ≡ number_of answer }
 {
@@ -20,6 +21,7 @@ pub fn number_of(answer: Answer) -> u8
 }
 
 // The unit length that a receiver's answer carries.
+#[tactic(auto, unfolding(rules::specs::Step::length_of))]
 pub fn length_of(answer: Answer) -> usize
     ensures { result ≡ length_of answer }
 {

@@ -1,0 +1,12 @@
+-- The two arms of the code are those of the definition.
+use Rattle.rules.specs.Send.{sending_number}
+use borrow.Author.Rules.{rules}
+use Rattle.answer_numbers.proofs.sending_number.Goals as goal
+
+pub returns-in-Sent : goal.returns-in-Sent
+unfolding sending_number
+returns-in-Sent c = search rules
+
+pub returns-in-Unsent : goal.returns-in-Unsent
+unfolding sending_number
+returns-in-Unsent c = search rules
