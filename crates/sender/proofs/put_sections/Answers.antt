@@ -7,26 +7,18 @@ use Rattle.rules.proofs.Send.{Accepted, accepted, count_byte, count_some}
 use Rattle.sender.proofs.Stage.{stage_room, stage_next, stage_start, stage_end}
 use Rattle.sender.proofs.put_sections.Goals as goal
 
--- the unit is not refused
-taken : (x : tie.After-slice-known invariant-loop decreases-loop)
-    → let a = x.before.before.args in Accepted a.settings a.llc-snap a.size a.unit.now a.out.now
-taken x =
-    let start = x.before.before in
-    let a = start.args in
-    accepted a.settings a.llc-snap a.size a.unit.now a.out.now start.requires.0
-
 pub overflow_sub-last : goal.overflow_sub-last
 overflow_sub-last c =
     let a = c.args in
-    omega (arith, c.requires.1, count_some a.size a.unit.now)
+    omega (arith, c.requires.count_value, count_some a.size a.unit.now)
 
 pub overflow_cast-last : goal.overflow_cast-last
-overflow_cast-last c = omega (arith, c.requires.1, count_byte (taken c))
+overflow_cast-last c = omega (arith, c.requires.count_value, count_byte (accepted _ _ _ _ _ c.requires.out_value))
 
 pub loop-i-init : goal.loop-i-init
 loop-i-init c =
     let a = c.args in
-    stage_start a.settings a.llc-snap a.size a.unit.now a.out.now (taken c) c.requires.1
+    stage_start a.settings a.llc_snap a.size a.unit.now a.out.now (accepted _ _ _ _ _ c.requires.out_value) c.requires.count_value
 
 pub overflow_cast-i : goal.overflow_cast-i
 overflow_cast-i c =
@@ -39,8 +31,8 @@ slice_bounds-put_section-end c = sym (length-take-le _ _ (omega arith))
 pub put_section-at-requires : goal.put_section-at-requires
 put_section-at-requires c =
     let a = c.args in
-    stage_room a.settings a.llc-snap a.size a.unit.now a.out.now c.loop.invariant _ c.loop-test.true
-    c.smaller.ensures
+    stage_room a.settings a.llc_snap a.size a.unit.now a.out.now c.loop-i.invariant _ c.loop-i-test.true
+    c.smaller-n.ensures
 
 pub slice_bounds-rest-count : goal.slice_bounds-rest-count
 slice_bounds-rest-count c = omega arith
@@ -60,8 +52,8 @@ loop-i-smaller c = omega arith
 pub loop-i-preserved : goal.loop-i-preserved
 loop-i-preserved c =
     let a = c.args in
-    stage_next a.settings a.llc-snap a.size a.unit.now a.out.now c.loop.invariant _ c.loop-test.true
-    c.smaller.ensures c.put_section-at.ensures
+    stage_next a.settings a.llc_snap a.size a.unit.now a.out.now c.loop-i.invariant _ c.loop-i-test.true
+    c.smaller-n.ensures c.put_section-at.ensures
 
 pub shape_of-out : goal.shape_of-out
 shape_of-out c = c.loop-i.invariant.same
@@ -69,4 +61,4 @@ shape_of-out c = c.loop-i.invariant.same
 pub returns : goal.returns
 returns c =
     let a = c.args in
-    stage_end a.settings a.llc-snap a.size a.unit.now a.out.now c.loop-i.invariant c.loop-i-test.false
+    stage_end a.settings a.llc_snap a.size a.unit.now a.out.now c.loop-i.invariant c.loop-i-test.false

@@ -6,8 +6,8 @@ use Rattle.sender.proofs.whole.Goals as goal
 
 pub returns-in_default : goal.returns-in_default
 unfolding ends_at
-returns-in_default c = rw (was c.unit_end.ensures c.enum_told-1.given.1) refl
+returns-in_default c = rw (was c.unit_end.ensures c.in_default.is) refl
 
 pub returns : goal.returns
 unfolding ends_at
-returns c = rw (was c.unit_end.ensures c.n-1.given.1) refl
+returns c = rw (was c.unit_end.ensures c.in-At.is) refl
