@@ -6,19 +6,17 @@ use Rattle.notification.proofs.finding.Goals as goal
 pub nine_offset-requires : goal.nine_offset-requires
 nine_offset-requires c = let A = c.args in
     let H = c.checked in
-    let P = c.pair-1 in
-    let a = pair_answers A.device A.s.now H.result.now _ _ c.find.ensures P.given.1 H.ensures.bytes in
+    let a = pair_answers A.device A.s.now H.result.now _ _ c.find.ensures c.in-PairAt.is H.ensures.bytes in
     a.locates
 
 pub returns-in-Refusal : goal.returns-in-Refusal
-returns-in-Refusal c = sym (rw c.number-1.given.1 at c.find.ensures)
+returns-in-Refusal c = sym (rw c.in-Refusal.is at c.find.ensures)
 
 pub returns-in-NoPair : goal.returns-in-NoPair
-returns-in-NoPair c = sym (rw c.enum_told-1.given.1 at c.find.ensures)
+returns-in-NoPair c = sym (rw c.in-NoPair.is at c.find.ensures)
 
 pub returns-in-PairAt : goal.returns-in-PairAt
 returns-in-PairAt c = let A = c.args in
     let H = c.checked in
-    let P = c.pair-1 in
-    let a = pair_answers A.device A.s.now H.result.now _ _ c.find.ensures P.given.1 H.ensures.bytes in
+    let a = pair_answers A.device A.s.now H.result.now _ _ c.find.ensures c.in-PairAt.is H.ensures.bytes in
     sym (a.told ∙ c.nine_offset.ensures)

@@ -15,10 +15,7 @@ use mathlib.Core.Path.{◌≡◌, refl, sym, ap, ◌∙◌}
 use native.Mathlib.Omega.{arith}
 use Prim.Native.Nat.{◌+◌, ◌-◌}
 use Rattle.notification.proofs.search.Goals as goal
-
-)))
-
-)))
+use Rattle.notification.proofs.search.Goals.{then-either+else-target-eq0+then-rest-size, else-either}
 
 pub pairs-init : goal.pairs-init
 pairs-init c = (c.requires, refl)
@@ -49,7 +46,7 @@ descriptors-init c = refl
 
 pub slice_bounds-descriptor-end : goal.slice_bounds-descriptor-end
 slice_bounds-descriptor-end c = sym (length-take-le _ c.descriptors.rest.now
-    (omega (arith, c.if3.false)))
+    (omega (arith, c.if-rest-size.false)))
 
 pub addresses-init : goal.addresses-init
 addresses-init c = refl
@@ -65,39 +62,41 @@ addresses-smaller c = rw from (simp length-drop (omega (
   arith,
   c.addresses-test.true,
   entry_some
-      c.byte-at.result,
-  c.entry-size.ensures,
+      c.byte_at.result,
+  c.entry_size-step.ensures,
+)))
 
 pub addresses-preserved : goal.addresses-preserved
 addresses-preserved c = entry_miss c.args.device
-    (take c.descriptor-size.result
+    (take c.descriptor_size-size.result
     c.descriptors.rest.now) c.addresses.addresses.now
-    c.entry-size.result
+    c.entry_size-step.result
     (omega (
       arith,
-      entry_some c.byte-at.result,
-      c.entry-size.ensures,
+      entry_some c.byte_at.result,
+      c.entry_size-step.ensures,
     ))
     c.addresses-test.true (was c.hit.ensures c.if-hit.false)
     ∙ c.addresses.invariant
 
 pub slice_bounds-rest-count : goal.slice_bounds-rest-count
-slice_bounds-rest-count c = omega (arith, c.if3.false)
+slice_bounds-rest-count c = omega (arith, c.if-rest-size.false)
 
 pub descriptors-smaller : goal.descriptors-smaller
 descriptors-smaller c = rw from (simp length-drop (omega (
   arith,
-  c.if3.false,
+  c.if-rest-size.false,
   descriptor_two c.descriptors.rest.now,
-  c.descriptor-size.ensures.is,
+  c.descriptor_size-size.ensures.is,
+)))
 
 pub descriptors-preserved : goal.descriptors-preserved
 descriptors-preserved c = let R = c.descriptors.rest.now in
-    let n = c.descriptor-size.result in
+    let n = c.descriptor_size-size.result in
     let d = take n R in
     let D = c.args.device in
-    descriptor_miss D R n c.descriptor-size.ensures.is
-    (omega (arith, c.if3.false))
+    descriptor_miss D R n c.descriptor_size-size.ensures.is
+    (omega (arith, c.if-rest-size.false))
     (covers_by D d _ _ _ false c.byte_at.ensures.is
     c.entry_size-step.ensures c.entry_bytes-addresses.ensures
     (sym c.addresses.invariant ∙ no_entry D d _ _
@@ -148,13 +147,16 @@ pairs-preserved c = let A = c.args in
     let f : P.offset + 4 + length H1.result.now + length H2.result.now
     ≡ P.offset + 2 + length H1.result.now + loop_size (drop (P.offset + 2 + length H1.result.now) S) = omega
     (arith, H2.ensures.size) in
-    let silent : answers_by A.device A.general (pair_at S P.offset) ≡ false = ⊎_elim
-    (λ j. answers_some A.device A.general S P.offset _ e H1.result.now H2.result.now H1.ensures.is.bytes
-    H2.ensures.is.bytes c.either.result told j.1.left j.0.taken false
-    (sym j.2.inv ∙ no_descriptor A.device j.2.rest.now _ j.3.ensures.is j.4.taken))
-    (λ j. answers_nowhere A.device A.general S P.offset _ e H1.result.now H2.result.now H1.ensures.is.bytes
-    H2.ensures.is.bytes c.either.result told j.left)
-    c.if-either.branch in (
+    let silent : answers_by A.device A.general (pair_at S P.offset) ≡ false =
+      elim c.if-either.branch [
+        then-either+else-target-eq0+then-rest-size w ↦
+          answers_some A.device A.general S P.offset _ e H1.result.now H2.result.now H1.ensures.is.bytes
+          H2.ensures.is.bytes c.either.result told w.if-target-eq0.false w.if-either.true false
+          (sym w.descriptors.invariant ∙ no_descriptor A.device w.descriptors.rest.now _ w.descriptor_size-size.ensures.is w.if-rest-size.true)
+        | else-either w ↦
+          answers_nowhere A.device A.general S P.offset _ e H1.result.now H2.result.now H1.ensures.is.bytes
+          H2.ensures.is.bytes c.either.result told w.if-either.false
+      ] in (
       next_turns S P.offset P.invariant.0 c.pairs-test.true _ e _ f,
       skips S P.offset
           P.invariant.0 c.pairs-test.true _ e _ f
@@ -194,38 +196,38 @@ pub returns-then-hit : goal.returns-then-hit
 returns-then-hit c = let A = c.args in
     let S = A.s.now in
     let P = c.pairs in
-    let H1 = c.loop-at in
-    let H2 = c.loop-at2 in
+    let H1 = c.loop_at-target in
+    let H2 = c.loop_at-operational in
     let e : P.offset + 2 + length H1.result.now ≡ P.offset + loop_size (drop P.offset S) = omega (arith, H1.ensures.size) in
     let told = c.either.ensures
-    ∙ ap (λ (t : Bool). either t A.general) (c.has-location.ensures _) in
+    ∙ ap (λ (t : Bool). either t A.general) (c.has_location.ensures _) in
     let f : P.offset + 4 + length H1.result.now + length H2.result.now
     ≡ P.offset + 2 + length H1.result.now + loop_size (drop (P.offset + 2 + length H1.result.now) S) = omega
     (arith, H2.ensures.size) in
     let R = c.descriptors.rest.now in
-    let n = c.descriptor-size.result in
+    let n = c.descriptor_size-size.result in
     let d = take n R in
     let D = A.device in
     let struck = entry_hit D d c.addresses.addresses.now
-    c.entry-size.result
+    c.entry_size-step.result
     (omega (
       arith,
-      entry_some c.byte-at.result,
-      c.entry-size.ensures,
+      entry_some c.byte_at.result,
+      c.entry_size-step.ensures,
     )) c.addresses-test.true
     (was c.hit.ensures c.if-hit.true) in
-    let by = covers_by D d _ _ _ true c.byte-at.ensures.is
-    c.entry-size.ensures
-    c.entry-bytes.ensures
+    let by = covers_by D d _ _ _ true c.byte_at.ensures.is
+    c.entry_size-step.ensures
+    c.entry_bytes-addresses.ensures
     (sym c.addresses.invariant ∙ struck) in
     let all = sym c.descriptors.invariant
-    ∙ descriptor_hit D R n c.descriptor-size.ensures.is (omega (
+    ∙ descriptor_hit D R n c.descriptor_size-size.ensures.is (omega (
       arith,
-      c.if3.false,
+      c.if-rest-size.false,
     )) by in
     record {
-      first = hits S P.offset P.inv.0 c.pairs-test.true _ e _ f (answers_by D A.general)
+      first = hits S P.offset P.invariant.0 c.pairs-test.true _ e _ f (answers_by D A.general)
           (answers_some A.device A.general S P.offset _ e H1.result.now H2.result.now H1.ensures.is.bytes
-          H2.ensures.is.bytes c.either.result told c.if2.false c.if1.true true all) ∙ P.inv.1;
-      turns = P.inv.0;
+          H2.ensures.is.bytes c.either.result told c.if-target-eq0.false c.if-either.true true all) ∙ P.invariant.1;
+      turns = P.invariant.0;
     }

@@ -3,8 +3,6 @@ use Rattle.notification_rules.specs.Loop.{platform_id_hash}
 use Rattle.notification_rules.specs.Finding.{wrong_hash}
 use Rattle.notification.proofs.wrong_hash.Goals as goal
 
-)
-
 pub returns : goal.returns
 unfolding wrong_hash platform_id_hash
 returns c = rw (
@@ -12,3 +10,4 @@ returns c = rw (
   c.byte_at-3.ensures.is,
   c.byte_at-2.ensures.is,
   c.byte_at.ensures.is,
+)

@@ -9,12 +9,12 @@ use Rattle.notification.proofs.location.nine.Goals as goal
 
 pub returns-then-rest-lt9 : goal.returns-then-rest-lt9
 returns-then-rest-lt9 c = λ h. let a = c.args in
-    absurd (omega (arith, h, c.if1.true, ap length c.after.ensures.bytes ∙ length-drop a.offset a.s.now))
+    absurd (omega (arith, h, c.if-rest-lt9.true, ap length c.after-rest.ensures.bytes ∙ length-drop a.offset a.s.now))
 
 pub slice_bounds-result-end-2 : goal.slice_bounds-result-end-2
-slice_bounds-result-end-2 c = sym (length-take-le _ c.after.result.now (omega arith))
+slice_bounds-result-end-2 c = sym (length-take-le _ c.after-rest.result.now (omega arith))
 
 pub returns : goal.returns
 returns c = λ h.
-    let i = c.after.ensures.offset (omega (arith, h)) in
+    let i = c.after-rest.ensures.offset (omega (arith, h)) in
     record { bytes = ap (λ (s : List ℕ). take 9 s) i.bytes; block = i.block; offset = i.offset }

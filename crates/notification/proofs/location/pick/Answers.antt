@@ -4,10 +4,10 @@ use mathlib.Core.Path.{refl}
 use Rattle.notification.proofs.location.pick.Goals as goal
 
 pub returns-in-Own : goal.returns-in-Own
-returns-in-Own c = rw (was c.choose.ensures c.offset-1.given.1) c.nine.ensures
+returns-in-Own c = rw (was c.choose.ensures c.in-Own.is) c.nine.ensures
 
 pub returns-in-Platform : goal.returns-in-Platform
-returns-in-Platform c = rw (was c.choose.ensures c.offset-in-Platform-1.given.1) c.nine-in-Platform.ensures
+returns-in-Platform c = rw (was c.choose.ensures c.in-Platform.is) c.nine-in-Platform.ensures
 
 pub returns-in-Neither : goal.returns-in-Neither
-returns-in-Neither c = rw (was c.choose.ensures c.enum_told.given.1) refl
+returns-in-Neither c = rw (was c.choose.ensures c.in-Neither.is) refl

@@ -10,7 +10,7 @@ use Rattle.notification.proofs.loops.after.Goals as goal
 pub returns-then-s-k : goal.returns-then-s-k
 returns-then-s-k c = let a = c.args in
     let l : length a.s.now ≤ a.k = omega arith in
-    record { bytes = sym (drop_of_length-le a.s.now l); offset = λ h. absurd (omega (arith, h, c.if1.true)) }
+    record { bytes = sym (drop_of_length-le a.s.now l); offset = λ h. absurd (omega (arith, h, c.if-s-k.true)) }
 
 pub returns : goal.returns
 returns c = let a = c.args in

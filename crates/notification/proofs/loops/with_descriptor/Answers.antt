@@ -13,14 +13,14 @@ returns-then-right_length c = fit_right _ _ _ (was c.right_length.ensures c.if-r
 pub returns-in-Exact : goal.returns-in-Exact
 unfolding worse
 returns-in-Exact c = fit_wrong c.args.fit _ _ _ (was c.right_length.ensures c.if-right_length.false)
-    (sym (ap (λ (x : Fit). worse x OtherLength) c.enum_told-1.given.1))
+    (sym (ap (λ (x : Fit). worse x OtherLength) c.in-Exact.is))
 
 pub returns-in-OtherLength : goal.returns-in-OtherLength
 unfolding worse
 returns-in-OtherLength c = fit_wrong c.args.fit _ _ _ (was c.right_length.ensures c.if-right_length.false)
-    (sym (ap (λ (x : Fit). worse x OtherLength) c.enum_told-in-OtherLength-1.given.1))
+    (sym (ap (λ (x : Fit). worse x OtherLength) c.in-OtherLength.is))
 
 pub returns-in-Misfit : goal.returns-in-Misfit
 unfolding worse
 returns-in-Misfit c = fit_wrong c.args.fit _ _ _ (was c.right_length.ensures c.if-right_length.false)
-    (sym (ap (λ (x : Fit). worse x OtherLength) c.enum_told-in-Misfit-1.given.1))
+    (sym (ap (λ (x : Fit). worse x OtherLength) c.in-Misfit.is))

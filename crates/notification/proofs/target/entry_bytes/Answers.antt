@@ -18,6 +18,6 @@ returns-then-tag-eq14 c = let e = c.byte_at-tag.ensures.is in
 
 pub returns : goal.returns
 unfolding entry_bytes
-returns c = let e = c.byte-at.ensures.is in
-    not_pick _ _ (ne_eqb _ 0x07 (λ z. c.if1.false (e ∙ z)))
-    (not_pick _ _ (ne_eqb _ 0x0E (λ z. c.if2.false (e ∙ z))) refl)
+returns c = let e = c.byte_at-tag.ensures.is in
+    not_pick _ _ (ne_eqb _ 0x07 (λ z. c.if-tag-eq7.false (e ∙ z)))
+    (not_pick _ _ (ne_eqb _ 0x0E (λ z. c.if-tag-eq14.false (e ∙ z))) refl)
