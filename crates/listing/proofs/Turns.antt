@@ -10,7 +10,7 @@ use Rattle.listing.specs.Walk.{Left, Gave, Offered, written, owed, Waits, Turned
 use Rattle.listing.specs.Turns.{Turns, begun, turned, Walked, Ended, Listed, Fresh, failure_of}
 use Rattle.listing.proofs.Owed.{left_stays, offered_stays, gave_owed, owed_waits, owed_end}
 
-pub turns_owed : {c : Settings} {w r : Walk} {b o u read text b' o' u' : List ℕ} {k : ℕ} → Turns c w b o u k read text r b' o' u'
+pub turns_owed : {c : Settings} {w : Walk} {b o u : List ℕ} {k : ℕ} {read text : List ℕ} {r : Walk} {b' o' u' : List ℕ} → Turns c w b o u k read text r b' o' u'
     → (rest : List ℕ) → Left r b' rest → owed c w o u (read ++ rest) ≡ text ++ owed c r o' u' rest
 turns_owed begun rest l = refl
 turns_owed {c = c} {w = w} {o = o} {u = u} (turned {read = read} {text = text} {b' = b'} {o' = o'} {r = r} before t) rest l =
