@@ -6,17 +6,18 @@ ghost use Rattle.std.specs.Prelude.{◌≡◌};
 ghost use Rattle.stream.specs.Words.{Filled};
 ghost use Rattle.archive.specs.Archive.{Says, Archived, archived_of, failure_of};
 
-use libc::{STDERR_FILENO, STDOUT_FILENO};
 use rules::Sending;
+use std::io::{Write, writer};
+use std::rt::Clock;
 use stream::{Failure, Input, read_some, write_whole};
 
 // Standard input to its end, or as much as the buffer has room for.
-fn read_input(buffer: &mut [u8]) -> Input
+fn read_input(rt: &(impl std::io::Input + Clock), buffer: &mut [u8]) -> Input
     ensures { Filled result buffer.new }
 {
     let mut filled = 0;
     while filled < buffer.len() {
-        let Input::Bytes(more) = read_some(&mut buffer[filled..]) else {
+        let Input::Bytes(more) = read_some(rt, &mut rt.reader(), &mut buffer[filled..]) else {
             return Input::Unreadable;
         };
         if more == 0 {
@@ -60,19 +61,19 @@ fn archive<'a>(input: Input, buffer: &[u8], out: &'a mut [u8], number: &mut u8) 
 }
 
 // The refusal's number and a line's end, to the error output.
-fn tell(number: u8) {
+fn tell(clock: &impl Clock, errors: &mut impl Write, number: u8) {
     let mut text = [0u8; 20];
     let k = io::decimal(number as u64, &mut text);
-    write_whole(STDERR_FILENO, &text[..k]);
-    write_whole(STDERR_FILENO, b"\n");
+    write_whole(clock, errors, &text[..k]);
+    write_whole(clock, errors, b"\n");
 }
 
 // Writes the sections, or the number of the refusal, and answers whether the sections are written.
-fn answer(number: u8, sections: &[u8]) -> bool {
+fn answer(rt: &(impl Print + Clock), errors: &mut impl Write, number: u8, sections: &[u8]) -> bool {
     if number == 0 {
-        return write_whole(STDOUT_FILENO, sections);
+        return write_whole(rt, &mut writer(rt), sections);
     }
-    tell(number);
+    tell(rt, errors, number);
     false
 }
 
@@ -93,12 +94,12 @@ fn failure(input: Input, number: u8, written: bool) -> Failure
     }
 }
 
-fn main() {
+fn main(rt: HostRuntime) {
     let mut buffer = io::large_buffer();
     let mut out = io::large_buffer();
     let mut number = 0;
-    let input = read_input(&mut buffer);
+    let input = read_input(&rt, &mut buffer);
     let sections = archive(input, &buffer, &mut out, &mut number);
-    let written = answer(number, sections);
-    stream::say(failure(input, number, written));
+    let written = answer(&rt, &mut rt.stderr(), number, sections);
+    stream::say(&rt, failure(input, number, written));
 }

@@ -12,8 +12,9 @@ ghost use Rattle.stream.specs.Words.{count_of};
 ghost use Rattle.listing.specs.Walk.{Fine, Left, whole, ready, Stays, Came, Kept, Served, Room, full, due, Wrote, Gave, owed, Turned};
 ghost use Rattle.listing.specs.Turns.{Fresh, Ended, Listed, failure_of};
 
-use libc::STDOUT_FILENO;
 use rules::{Answer, Settings, State};
+use std::io::writer;
+use std::rt::Clock;
 use stream::{Failure, Input};
 
 // The bytes at hand are start..end of the input's buffer, the first of them is number `offset` of the input, and the output's
@@ -142,7 +143,7 @@ fn came(walk: Walk, got: Input) -> Walk
 }
 
 // More input: one read after the bytes at hand; where the room there is short, they move to the front first.
-fn refill(walk: Walk, input: &mut [u8]) -> Walk
+fn refill(rt: &(impl std::io::Input + Clock), walk: Walk, input: &mut [u8]) -> Walk
     requires fine { Fine walk (length input.old) }
     requires over_value { walk.over ≡ false }
     ensures fine_2 { Fine result (length input.old) }
@@ -158,7 +159,7 @@ fn refill(walk: Walk, input: &mut [u8]) -> Walk
         after.end = n;
         return after;
     }
-    let got = stream::read_some(&mut input[end..]);
+    let got = stream::read_some(rt, &mut rt.reader(), &mut input[end..]);
     came(walk, got)
 }
 
@@ -182,19 +183,19 @@ fn wrote(walk: Walk, whole: bool) -> Walk
 }
 
 // The one write to standard output: what it is given has to be all that the output's buffer holds.
-fn write(walk: Walk, output: &[u8], text: &[u8]) -> Walk
+fn write(rt: &(impl Print + Clock), walk: Walk, output: &[u8], text: &[u8]) -> Walk
     requires { text.now ≡ take walk.out output.now }
     ensures { Gave walk output.now text.now result }
 {
-    let whole = stream::write_whole(STDOUT_FILENO, text);
+    let whole = stream::write_whole(rt, &mut writer(rt), text);
     wrote(walk, whole)
 }
 
-fn flush(walk: Walk, output: &[u8]) -> Walk
+fn flush(rt: &(impl Print + Clock), walk: Walk, output: &[u8]) -> Walk
     requires { Room walk (length output.now) }
     ensures { Gave walk output.now (take walk.out output.now) result }
 {
-    write(walk, output, pending(walk, output))
+    write(rt, walk, output, pending(walk, output))
 }
 
 // The input has ended and all of it is offered: what the output's buffer holds is all that is owed.
@@ -247,6 +248,7 @@ fn ready(walk: Walk, input: &[u8]) -> bool
 
 // One turn: a write, more input, the end, or an offer.
 fn turn(
+    rt: &(impl std::io::Input + Print + Clock),
     settings: Settings,
     walk: Walk,
     input: &mut [u8],
@@ -263,10 +265,10 @@ fn turn(
 {
     let ready = ready(walk, input);
     if due(walk, ready, output.len()) {
-        return flush(walk, output);
+        return flush(rt, walk, output);
     }
     if !ready {
-        return refill(walk, input);
+        return refill(rt, walk, input);
     }
     if walk.start == walk.end {
         return finish(walk);
@@ -296,6 +298,7 @@ fn fresh() -> Walk
 // Turn after turn, until all is offered or a write failed. A proved loop has to end, and nothing says that the input does: the
 // turns count down from a number that no listing uses up.
 fn walk_on(
+    rt: &(impl std::io::Input + Print + Clock),
     settings: Settings,
     start: Walk,
     input: &mut [u8],
@@ -318,21 +321,33 @@ fn walk_on(
         if walk.failed {
             return walk;
         }
-        walk = turn(settings, walk, input, output, unit);
+        walk = turn(rt, settings, walk, input, output, unit);
         turns -= 1;
     }
     walk
 }
 
 // The whole listing: the turns, and what their last lines leave in the output's buffer.
-fn list(input: &mut [u8], output: &mut [u8], unit: &mut [u8]) -> Walk
+fn list(
+    rt: &(impl std::io::Input + Print + Clock),
+    input: &mut [u8],
+    output: &mut [u8],
+    unit: &mut [u8],
+) -> Walk
     requires { unit.old ≡ replicate 65535 0 }
     ensures { Listed input.old output.old unit.old
         result input.new output.new unit.new }
 {
     let start = fresh();
-    let end = walk_on(recording::listing_settings(), start, input, output, unit);
-    flush(end, output)
+    let end = walk_on(
+        rt,
+        recording::listing_settings(),
+        start,
+        input,
+        output,
+        unit,
+    );
+    flush(rt, end, output)
 }
 
 // What has failed: the input, where both have, since nothing is read after a write that failed.
@@ -349,10 +364,10 @@ fn failure(walk: Walk) -> Failure
 }
 
 // The input's buffer is large, since what is done is written before each read.
-fn main() {
+fn main(rt: HostRuntime) {
     let mut input = [0; 262144];
-    let mut output = io::large_buffer();
+    let mut output = [0; 65536];
     let mut unit = [0; 65535];
-    let end = list(&mut input, &mut output, &mut unit);
-    stream::say(failure(end));
+    let end = list(&rt, &mut input, &mut output, &mut unit);
+    stream::say(&rt, failure(end));
 }

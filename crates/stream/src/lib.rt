@@ -6,8 +6,11 @@ ghost use Rattle.std.specs.Prelude.{◌≡◌, true, length};
 ghost use Rattle.io.specs.Counts.{IsPrefixLen};
 ghost use Rattle.stream.specs.Words.{Filled, word_of};
 
-use libc::STDIN_FILENO;
-use libc::types::timespec;
+use std::fs::OpenOptions;
+use std::io::{Error, ErrorKind, Read, Write};
+use std::rt::{Clock, Files};
+use std::thread;
+use std::time::Duration;
 
 // What a read gave: so many bytes at the start of the buffer, 0 at the end of the input, or nothing, since it failed.
 #[derive(Clone, Copy)]
@@ -25,55 +28,43 @@ pub enum Failure {
     Refused,
 }
 
-// Where whoever starts a program may listen for its word on failure. Where it is not open, the word is lost and nothing else happens.
-const LISTENER: i32 = 3;
-
-// Waits for the time asked, or until a signal comes. It is apart since a reference to a struct is proved by hand.
-fn sleep(asked: timespec, mut left: timespec) {
-    libc::nanosleep(&asked, &mut left);
-}
+// Where whoever starts a program may listen for its word on failure: descriptor 3. Where it is not open, the word is lost and nothing
+// else happens.
+const LISTENER: &str = "/dev/fd/3";
 
 // Waits a millisecond.
-fn pause() {
-    let asked = timespec {
-        tv_sec: 0,
-        tv_nsec: 1000000,
-    };
-    let left = timespec {
-        tv_sec: 0,
-        tv_nsec: 0,
-    };
-    sleep(asked, left);
+fn pause(clock: &impl Clock) {
+    thread::sleep(clock, Duration::from_millis(1));
 }
 
-// A call has just answered -1: whether it may be made again. A signal came, or the descriptor is set not to wait and nothing can be
-// moved yet; then the program waits itself.
-fn again() -> bool {
-    let error = os::errno();
-    if error == libc::EINTR {
+// A call has just failed: whether it may be made again. A signal came, or the descriptor is set not to wait and nothing can be moved
+// yet; then the program waits itself.
+fn again(clock: &impl Clock, error: Error) -> bool {
+    let kind = error.kind();
+    if kind == ErrorKind::Interrupted {
         return true;
     }
-    if error == libc::EAGAIN {
-        pause();
+    if kind == ErrorKind::WouldBlock {
+        pause(clock);
         return true;
     }
     false
 }
 
-// One read of standard input, which may give one byte. A proved loop has to end, and nothing says that the wait does: the turns count
+// One read of the input, which may give one byte. A proved loop has to end, and nothing says that the wait does: the turns count
 // down from a number that no wait uses up.
-pub fn read_some(buffer: &mut [u8]) -> Input
+pub fn read_some(clock: &impl Clock, input: &mut impl Read, buffer: &mut [u8]) -> Input
     ensures { Filled result buffer.new }
 {
     let mut turns = u64::MAX;
     while turns > 0 {
-        let got = libc::read(STDIN_FILENO, buffer);
-        if got >= 0 {
-            let n = io::count(got, buffer);
-            return Input::Bytes(n);
-        }
-        if !again() {
-            break;
+        match input.read(buffer) {
+            Ok(n) => return Input::Bytes(n),
+            Err(error) => {
+                if !again(clock, error) {
+                    break;
+                }
+            }
         }
         turns -= 1;
     }
@@ -81,17 +72,18 @@ pub fn read_some(buffer: &mut [u8]) -> Input
 }
 
 // One write, of a byte or more; 0 where it fails.
-fn write_some(descriptor: i32, text: &[u8]) -> usize
+fn write_some(clock: &impl Clock, output: &mut impl Write, text: &[u8]) -> usize
     ensures { IsPrefixLen result text.now }
 {
     let mut tries = u64::MAX;
     while tries > 0 {
-        let put = libc::write(descriptor, text);
-        if put >= 0 {
-            return io::count(put, text);
-        }
-        if !again() {
-            break;
+        match output.write(text) {
+            Ok(put) => return put,
+            Err(error) => {
+                if !again(clock, error) {
+                    break;
+                }
+            }
         }
         tries -= 1;
     }
@@ -99,12 +91,12 @@ fn write_some(descriptor: i32, text: &[u8]) -> usize
 }
 
 // Writes all of the text, each write after the bytes that the last one took, or answers that it failed. An empty text cannot fail.
-pub fn write_whole(descriptor: i32, text: &[u8]) -> bool
+pub fn write_whole(clock: &impl Clock, output: &mut impl Write, text: &[u8]) -> bool
     ensures { length text.now ≡ 0 → result ≡ true }
 {
     let mut rest = text;
     while rest.len() > 0 {
-        let put = write_some(descriptor, rest);
+        let put = write_some(clock, output, rest);
         if put == 0 {
             return false;
         }
@@ -114,18 +106,25 @@ pub fn write_whole(descriptor: i32, text: &[u8]) -> bool
 }
 
 // The one write to the listener: what it is given has to be the failure's word.
-fn tell(failure: Failure, word: &[u8])
+fn tell(rt: &(impl Files + Clock), failure: Failure, word: &[u8])
     requires { word.now ≡ word_of failure }
 {
-    write_whole(LISTENER, word);
+    if word.is_empty() {
+        return;
+    }
+    let mut options = OpenOptions::new();
+    options.append(true);
+    if let Ok(mut listener) = options.open(rt, LISTENER) {
+        write_whole(rt, &mut listener, word);
+    }
 }
 
 // Tells the listener why the work is not done; where it is done, nothing is told.
-pub fn say(failure: Failure) {
+pub fn say(rt: &(impl Files + Clock), failure: Failure) {
     match failure {
-        Failure::Nothing => tell(failure, b""),
-        Failure::Reading => tell(failure, b"input\n"),
-        Failure::Writing => tell(failure, b"output\n"),
-        Failure::Refused => tell(failure, b"refused\n"),
+        Failure::Nothing => tell(rt, failure, b""),
+        Failure::Reading => tell(rt, failure, b"input\n"),
+        Failure::Writing => tell(rt, failure, b"output\n"),
+        Failure::Refused => tell(rt, failure, b"refused\n"),
     }
 }

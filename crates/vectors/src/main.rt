@@ -6,8 +6,8 @@ ghost use Rattle.std.specs.Prelude.{◌≡◌, ◌<◌, length};
 ghost use Rattle.rules.specs.Recording.{offers};
 ghost use Rattle.vectors.specs.Text.{digit, word};
 
-use libc::STDOUT_FILENO;
 use rules::Sending;
+use std::io;
 
 fn digit(n: u32) -> u8
     requires { n < 16 }
@@ -34,18 +34,18 @@ fn word(x: u32) -> [u8; 8]
     ]
 }
 
-fn print(text: &[u8]) {
-    io::write_all(STDOUT_FILENO, text);
+fn print(rt: &impl Print, text: &[u8]) -> io::Result<()> {
+    rt.write_all(text)
 }
 
 // A line of CRC_32: a name and the value over some bytes.
-fn crc_line(name: &[u8], bytes: &[u8]) {
+fn crc_line(rt: &impl Print, name: &[u8], bytes: &[u8]) -> io::Result<()> {
     let value = word(crc::crc_32(bytes));
-    print(b"crc_32 ");
-    print(name);
-    print(b" ");
-    print(&value);
-    print(b"\n");
+    print(rt, b"crc_32 ")?;
+    print(rt, name)?;
+    print(rt, b" ")?;
+    print(rt, &value)?;
+    print(rt, b"\n")
 }
 
 // How many offers a recording has.
@@ -62,13 +62,19 @@ fn offer_count(s: &[u8]) -> usize
     count
 }
 
-fn print_number(n: usize) {
-    print(b" ");
-    io::print_decimal(STDOUT_FILENO, n as u64);
+fn print_number(rt: &impl Print, n: usize) -> io::Result<()> {
+    print(rt, b" ")?;
+    rt.print(n)
 }
 
 // A line of the sender: unit length, piece size, number of sections, their length in all.
-fn send_line(llc_snap: bool, size: usize, unit: &[u8], out: &mut [u8]) {
+fn send_line(
+    rt: &impl Print,
+    llc_snap: bool,
+    size: usize,
+    unit: &[u8],
+    out: &mut [u8],
+) -> io::Result<()> {
     let Sending::Sent(total) = sender::send(
         recording::listing_settings(),
         llc_snap,
@@ -76,24 +82,24 @@ fn send_line(llc_snap: bool, size: usize, unit: &[u8], out: &mut [u8]) {
         unit,
         out,
     ) else {
-        return;
+        return Ok(());
     };
-    print(b"send");
-    print_number(unit.len());
-    print_number(size);
-    print_number(offer_count(&out[..total]));
-    print_number(total);
-    print(b"\n");
+    print(rt, b"send")?;
+    print_number(rt, unit.len())?;
+    print_number(rt, size)?;
+    print_number(rt, offer_count(&out[..total]))?;
+    print_number(rt, total)?;
+    print(rt, b"\n")
 }
 
 // Tables of an MPEG-2 multiplex as FFmpeg writes them: the program association section of one service, and the program map section
 // of one H.264 and one AAC stream.
-fn table_lines() {
+fn table_lines(rt: &impl Print) -> io::Result<()> {
     let association = b"\x00\xb0\x0d\x00\x01\xc1\x00\x00\x00\x01\xf0\x00";
-    crc_line(b"program-association", association);
+    crc_line(rt, b"program-association", association)?;
     let map =
         b"\x02\xb0\x17\x00\x01\xc1\x00\x00\xe1\x00\xf0\x00\x1b\xe1\x00\xf0\x00\x0f\xe1\x01\xf0\x00";
-    crc_line(b"program-map", map);
+    crc_line(rt, b"program-map", map)
 }
 
 // The octets from 1 to 40, and after them what AAL5 puts there.
@@ -111,37 +117,37 @@ fn counting() -> [u8; 44]
 }
 
 // ITU-T I.363.5, example CPCS-PDUs of AAL5: 40 octets, CPCS-UU 0, CPI 0 and the length in 16 bits. What is published is inverted.
-fn aal5_lines() {
+fn aal5_lines(rt: &impl Print) -> io::Result<()> {
     let mut zeros = [0; 44];
     zeros[43] = 40;
-    crc_line(b"aal5-zeros", &zeros);
+    crc_line(rt, b"aal5-zeros", &zeros)?;
     let mut ones = [0xff; 44];
     ones[40] = 0;
     ones[41] = 0;
     ones[42] = 0;
     ones[43] = 40;
-    crc_line(b"aal5-ones", &ones);
+    crc_line(rt, b"aal5-ones", &ones)?;
     let counting = counting();
-    crc_line(b"aal5-counting", &counting);
+    crc_line(rt, b"aal5-counting", &counting)
 }
 
 // The samples of document 01: a unit of 4,081 bytes, which is an IPv4 datagram of that total length, and the empty unit, which only
 // LLC/SNAP can carry (document 02, request 3).
-fn send_lines() {
+fn send_lines(rt: &impl Print) -> io::Result<()> {
     let mut unit = [0; 4081];
     unit[0] = 0x45;
     unit[2] = 0x0f;
     unit[3] = 0xf1;
     let mut out = [0; 5000];
-    send_line(false, 4080, &unit, &mut out);
-    send_line(true, 4080, &unit[..0], &mut out);
+    send_line(rt, false, 4080, &unit, &mut out)?;
+    send_line(rt, true, 4080, &unit[..0], &mut out)
 }
 
-fn main() {
+fn main(rt: HostRuntime) -> io::Result<()> {
     // The start value, and the check value of CRC-32/MPEG-2 in Cook's catalogue of parametrised CRC algorithms.
-    crc_line(b"empty", b"");
-    crc_line(b"123456789", b"123456789");
-    table_lines();
-    aal5_lines();
-    send_lines();
+    crc_line(&rt, b"empty", b"")?;
+    crc_line(&rt, b"123456789", b"123456789")?;
+    table_lines(&rt)?;
+    aal5_lines(&rt)?;
+    send_lines(&rt)
 }
