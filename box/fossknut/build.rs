@@ -1,11 +1,11 @@
-//! Finds the static library: in `FOSSKNUT_LIB_DIR`, else where `rt staticlib` leaves it.
+//! Finds the static library: in `FOSSKNUT_LIB_DIR`, else where `scripts/rust-test` leaves it.
 
 use std::env;
 use std::path::{Path, PathBuf};
 use std::process::exit;
 
-/// The proved crate that the library is made of.
-const CRATE: &str = "fossknut";
+/// What the library is named.
+const NAME: &str = "fossknut";
 
 fn main() {
     println!("cargo:rerun-if-env-changed=FOSSKNUT_LIB_DIR");
@@ -15,10 +15,10 @@ fn main() {
         || Path::new(env!("CARGO_MANIFEST_DIR")).join("../../target/staticlib"),
         PathBuf::from,
     );
-    let library = folder.join(format!("lib{CRATE}.a"));
+    let library = folder.join(format!("lib{NAME}.a"));
     if !library.is_file() {
         eprintln!(
-            "{} is missing: run `rt staticlib {CRATE}` at the root of the repository, \
+            "{} is missing: run `scripts/rust-test` at the root of the repository, which builds it, \
              or set FOSSKNUT_LIB_DIR to the folder that has it",
             library.display()
         );
@@ -26,5 +26,5 @@ fn main() {
     }
     println!("cargo:rerun-if-changed={}", library.display());
     println!("cargo:rustc-link-search=native={}", folder.display());
-    println!("cargo:rustc-link-lib=static={CRATE}");
+    println!("cargo:rustc-link-lib=static={NAME}");
 }

@@ -7,8 +7,8 @@
 //!
 //! What these functions answer is proved, in Rattle, for every slice. This crate adds Rust's types
 //! and nothing else; the calls across the boundary are in one small module. The build takes the
-//! library from the folder `FOSSKNUT_LIB_DIR`, and without it from where `rt staticlib fossknut`
-//! leaves it in this repository.
+//! library from the folder `FOSSKNUT_LIB_DIR`, and without it from `target/staticlib` of this
+//! repository, where `scripts/rust-test` leaves it.
 //!
 //! ```
 //! // A datagram section for 02:00:5E:10:20:30 with nothing in it.
