@@ -1,5 +1,4 @@
 -- The bytes of a state mean that state, by its cases: a good one has numbers that fit their bytes.
-use Prim.Native.Nat.{ℕ, ◌<◌}
 use native.Mathlib.Omega.{arith}
 use mathlib.Core.Path.{◌≡◌, refl}
 use mathlib.Core.Bool.{Bool, true, false, not}

@@ -1,5 +1,4 @@
 -- Each branch writes the bytes of its case.
-use Rattle.std.proofs.Common.{◌∙◌}
 use mathlib.Core.Path.{sym, ap}
 use native.Mathlib.Nat.{div-one}
 use Rattle.wire.specs.Bytes.{bytes_of}

@@ -1,6 +1,5 @@
 -- `crc::by_far` meets its contract: each turn takes two words away by the far multiple, and the near one does the rest.
 use mathlib.Core.List.{[], ◌∷◌}
-use Prim.Native.Nat.{◌-◌}
 use lib.ListN.{length}
 use Rattle.crc.specs.Words.{crc_after}
 use Rattle.crc.proofs.Clear.{Stands}

@@ -1,6 +1,5 @@
 -- `crc::read` meets its contract: at each turn what is joined is the number that the bytes before `i` make.
 use mathlib.Core.Path.{◌≡◌, refl, ap, ◌∙◌}
-use Prim.Native.Nat.{◌-◌}
 use native.Mathlib.Omega.{arith}
 use borrow.Author.Rules.{rules}
 use Rattle.crc.specs.Words.{number}

@@ -3,17 +3,15 @@ use Rattle.notification.proofs.Pairs.{first_whole, second_whole, pair_whole, nex
 use Rattle.notification.specs.Readers.{pair_at, answers_by}
 use Rattle.notification_rules.proofs.Items.{descriptor_two, entry_some}
 use Rattle.wire.proofs.Lists.{from}
-use Rattle.notification_rules.specs.Target.{covers, hit}
 use Rattle.notification_rules.specs.Loop.{loop_size}
 use Rattle.wire.proofs.Choice.{was}
 use Rattle.wire.specs.Choice.{either}
 use lib.Seq.{length-take-le}
 use lib.ListN.{length, take, drop, length-drop}
-use mathlib.Core.Logic.{⊎_elim}
 use mathlib.Core.Bool.{Bool, true, false}
 use mathlib.Core.Path.{◌≡◌, refl, sym, ap, ◌∙◌}
 use native.Mathlib.Omega.{arith}
-use Prim.Native.Nat.{◌+◌, ◌-◌}
+use Prim.Native.Nat.{◌+◌}
 use Rattle.notification.proofs.search.Goals as goal
 use Rattle.notification.proofs.search.Goals.{then-either+else-target-eq0+then-rest-size, else-either}
 
@@ -148,15 +146,15 @@ pairs-preserved c = let A = c.args in
     ≡ P.offset + 2 + length H1.result.now + loop_size (drop (P.offset + 2 + length H1.result.now) S) = omega
     (arith, H2.ensures.size) in
     let silent : answers_by A.device A.general (pair_at S P.offset) ≡ false =
-      elim c.if-either.branch [
-        then-either+else-target-eq0+then-rest-size w ↦
+    elim c.if-either.branch [
+      | then-either+else-target-eq0+then-rest-size w ↦
           answers_some A.device A.general S P.offset _ e H1.result.now H2.result.now H1.ensures.is.bytes
           H2.ensures.is.bytes c.either.result told w.if-target-eq0.false w.if-either.true false
           (sym w.descriptors.invariant ∙ no_descriptor A.device w.descriptors.rest.now _ w.descriptor_size-size.ensures.is w.if-rest-size.true)
-        | else-either w ↦
+      | else-either w ↦
           answers_nowhere A.device A.general S P.offset _ e H1.result.now H2.result.now H1.ensures.is.bytes
           H2.ensures.is.bytes c.either.result told w.if-either.false
-      ] in (
+    ] in (
       next_turns S P.offset P.invariant.0 c.pairs-test.true _ e _ f,
       skips S P.offset
           P.invariant.0 c.pairs-test.true _ e _ f

@@ -1,6 +1,5 @@
 -- The first pair that answers is the same from here as from the start; what is left of a loop or a descriptor covers as all of it does.
 use Rattle.notification.specs.Readers.{Turns, pairs_from, answers_by}
-use Rattle.wire.proofs.Lists.{from}
 use Rattle.notification_rules.specs.Target.{covers, hit, first_pair}
 use Rattle.notification_rules.specs.Loop.{descriptor_items}
 use Rattle.notification_rules.specs.Cut.{cut_of, any}

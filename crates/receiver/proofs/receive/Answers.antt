@@ -1,6 +1,5 @@
 -- Each test that the code makes decides the next choice of the outcome.
 use mathlib.Core.Path.{refl}
-use borrow.Author.Tests.{not-true, not-false}
 use Rattle.wire.specs.Choice.{first_of}
 use Rattle.wire.proofs.Choice.{was}
 use Rattle.rules.specs.Check.{check}

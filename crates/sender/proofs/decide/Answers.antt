@@ -2,7 +2,7 @@
 use Prim.Native.Nat.{ℕ, ◌+◌, ◌*◌, ◌≤◌, ◌<◌}
 use native.Mathlib.Omega.{arith}
 use mathlib.Core.Path.{◌≡◌, refl, ap, sym}
-use mathlib.Core.Bool.{Bool, not, true, false}
+use mathlib.Core.Bool.{Bool, not, true}
 use mathlib.Core.List.{List, flatten}
 use lib.Dec.{leb, ltb}
 use lib.ListN.{length}
@@ -58,12 +58,11 @@ returns-then-not-size_good c = (
 
 pub returns-then-unit-gt65535 : goal.returns-then-unit-gt65535
 unfolding send_lines first_of
-returns-then-unit-gt65535 c =
-    (
-      λ z. omega (arith, z),
-      not_first 10 _ (ap not (was c.good_settings.ensures c.if-not-good_settings.false))
-          (not_first 50 _ (ap not (was c.size_good.ensures c.if-not-size_good.false)) (yes_first 51 _ (lt-ltb 65535 _ c.if-unit-gt65535.true))),
-    )
+returns-then-unit-gt65535 c = (
+  λ z. omega (arith, z),
+  not_first 10 _ (ap not (was c.good_settings.ensures c.if-not-good_settings.false))
+      (not_first 50 _ (ap not (was c.size_good.ensures c.if-not-size_good.false)) (yes_first 51 _ (lt-ltb 65535 _ c.if-unit-gt65535.true))),
+)
 
 pub returns-then-not-whole : goal.returns-then-not-whole
 returns-then-not-whole c =

@@ -1,7 +1,5 @@
 -- Three puts in a row, and the CRC_32 of what the first two wrote.
-use Prim.Native.Nat.{◌≤◌}
 use native.Mathlib.Omega.{arith}
-use lib.ListN.{length}
 use Rattle.rules.specs.Section.{section_of}
 use Rattle.sender.proofs.Sealed.{puts_sealed, within}
 use Rattle.sender.proofs.put_section.Goals as goal

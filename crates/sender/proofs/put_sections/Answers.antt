@@ -1,9 +1,8 @@
 -- Each turn puts the next section after the others, and cuts its piece off what is left.
-use Prim.Native.Nat.{◌-◌}
 use native.Mathlib.Omega.{arith}
 use mathlib.Core.Path.{sym}
 use lib.Seq.{length-take-le}
-use Rattle.rules.proofs.Send.{Accepted, accepted, count_byte, count_some}
+use Rattle.rules.proofs.Send.{accepted, count_byte, count_some}
 use Rattle.sender.proofs.Stage.{stage_room, stage_next, stage_start, stage_end}
 use Rattle.sender.proofs.put_sections.Goals as goal
 

@@ -1,6 +1,6 @@
 -- Each test of the version is the definition's, and the two parts are as long as both together.
 use Prim.Native.Nat.{ℕ, ◌+◌}
-use mathlib.Core.Path.{ap, ap₂, refl, sym, ◌∙◌}
+use mathlib.Core.Path.{ap₂, refl, sym, ◌∙◌}
 use lib.ListN.{length-append}
 use borrow.Author.Tests.{eq-eqb, ne_eqb}
 use Rattle.wire.proofs.Choice.{not_pick, was, yes_pick}

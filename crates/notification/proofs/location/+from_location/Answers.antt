@@ -6,7 +6,6 @@ use Rattle.notification.proofs.Locations.{reaches_end, reaches_here, reaches_mor
 use mathlib.Core.Path.{◌∙◌}
 use lib.ListN.{length, length-drop}
 use native.Mathlib.Omega.{arith}
-use Prim.Native.Nat.{ℕ, ◌<◌}
 use Rattle.notification.proofs.location.+from_location.Goals as goal
 
 pub returns-then-s-size : goal.returns-then-s-size

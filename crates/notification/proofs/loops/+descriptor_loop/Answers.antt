@@ -3,9 +3,8 @@ use Rattle.notification_rules.proofs.Items.{descriptor_two}
 use Rattle.wire.proofs.Lists.{from}
 use Rattle.notification.proofs.Fits.{fit_end, fit_stop, fit_more}
 use mathlib.Core.Path.{◌∙◌}
-use lib.ListN.{length, length-drop}
+use lib.ListN.{length-drop}
 use native.Mathlib.Omega.{arith}
-use Prim.Native.Nat.{ℕ, ◌<◌}
 use Rattle.notification.proofs.loops.+descriptor_loop.Goals as goal
 
 pub returns-then-s-eq0 : goal.returns-then-s-eq0

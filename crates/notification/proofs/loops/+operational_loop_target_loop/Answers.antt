@@ -4,9 +4,8 @@ use Rattle.wire.proofs.Lists.{from}
 use Rattle.notification.proofs.Fits.{loops_end, loops_short, loops_missing, loops_on}
 use mathlib.Core.Bool.{true, false}
 use mathlib.Core.Path.{◌∙◌}
-use lib.ListN.{length, length-drop}
+use lib.ListN.{length-drop}
 use native.Mathlib.Omega.{arith}
-use Prim.Native.Nat.{ℕ, ◌<◌}
 use Rattle.notification.proofs.loops.+operational_loop_target_loop.Goals as goal
 
 pub operational_loop-returns-then-s-size : goal.operational_loop-returns-then-s-size
