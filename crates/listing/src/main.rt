@@ -55,7 +55,8 @@ fn put_decimal(output: &mut [u8], at: usize, n: u64) -> usize
     requires { at + length (decimal n) ≤ length output.old }
     ensures { Puts output.old at (decimal n) result output.new }
 {
-    if n < 10 {
+    let last = n < 10;
+    if last {
         return put_byte(output, at, digit(n));
     }
     let end = put_decimal(output, at, n / 10);

@@ -6,20 +6,20 @@ use Rattle.listing.proofs.+put_decimal.Goals as goal
 
 pub put_byte-requires : goal.put_byte-requires
 put_byte-requires t c =
-    omega (arith, c.requires, ap length (decimal_last c.args.n (omega (arith, c.if-n-lt10.true))))
+    omega (arith, c.requires, ap length (decimal_last c.args.n (omega (arith, c.if-last.true))))
 
-pub returns-then-n-lt10 : goal.returns-then-n-lt10
-returns-then-n-lt10 t c = put_last (omega (arith, c.if-n-lt10.true)) c.digit.ensures c.put_byte.ensures
+pub returns-then-last : goal.returns-then-last
+returns-then-last t c = put_last (omega (arith, c.if-last.true)) c.digit.ensures c.put_byte.ensures
 
 pub put_decimal-end-requires : goal.put_decimal-end-requires
 put_decimal-end-requires t c =
-    (omega (arith, c.decreases, c.if-n-lt10.false), omega (arith, c.requires, decimal_longer _ c.ranges.n.fits c.if-n-lt10.false))
+    (omega (arith, c.decreases, c.if-last.false), omega (arith, c.requires, decimal_longer _ c.ranges.n.fits c.if-last.false))
 
 pub put_byte-requires-2 : goal.put_byte-requires-2
 put_byte-requires-2 t c =
     let p = c.put_decimal-end.ensures in
-    omega (arith, c.requires, p.end, puts_length p, decimal_longer _ c.ranges.n.fits c.if-n-lt10.false)
+    omega (arith, c.requires, p.end, puts_length p, decimal_longer _ c.ranges.n.fits c.if-last.false)
 
 pub returns : goal.returns
 returns t c =
-    put_more c.ranges.n.fits c.if-n-lt10.false c.digit-2.ensures c.put_decimal-end.ensures c.put_byte-2.ensures
+    put_more c.ranges.n.fits c.if-last.false c.digit-2.ensures c.put_decimal-end.ensures c.put_byte-2.ensures
