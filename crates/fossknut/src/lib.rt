@@ -1,4 +1,5 @@
-// What the Rust box links: functions on numbers and bytes only. A slice passes as a pointer and then a length, sixteen bytes as a pointer.
+// What the Rust box links, through the static library fossknut_c: functions on numbers and bytes only. A slice passes as a pointer and then a
+// length, sixteen bytes as a pointer.
 #![tactic(auto)]
 
 ghost use Rattle.std.specs.Prelude.{◌≡◌};
@@ -14,16 +15,14 @@ ghost use Rattle.pes_rules.specs.Packet.{read_of};
 use caller_numbers::{address_of, settings_of, state_bytes, state_of};
 
 // CRC_32 of the bytes.
-#[unsafe(no_mangle)]
-pub extern "C" fn fossknut_crc_32(s: &[u8]) -> u32
+pub fn fossknut_crc_32(s: &[u8]) -> u32
     ensures { result ≡ crc32 s.now }
 {
     crc::crc_32(s)
 }
 
 // The first of 12 to 19 and 24, which stands at 15's place, that applies to a datagram section, else 0.
-#[unsafe(no_mangle)]
-pub extern "C" fn fossknut_check(s: &[u8]) -> u8
+pub fn fossknut_check(s: &[u8]) -> u8
     ensures { result ≡ check s.now }
 {
     section_check::check(s)
@@ -35,8 +34,7 @@ pub extern "C" fn fossknut_check(s: &[u8]) -> u8
 // idle, any other value an open run, and any flag but 0 is 1. What is given back are the bytes of the state after (`state_bytes`), idle
 // zeros; with answer 2 too: there the state is as given, and bytes that no state has are rewritten all the same. Run 7 becomes 1, a flag of 2
 // becomes 1, and beside run 0 the others become 0.
-#[unsafe(no_mangle)]
-pub extern "C" fn fossknut_receive(
+pub fn fossknut_receive(
     mac1: u8,
     mac2: u8,
     mac3: u8,
@@ -71,16 +69,14 @@ pub extern "C" fn fossknut_receive(
 }
 
 // A gap notice: the bytes become those of the idle state.
-#[unsafe(no_mangle)]
-pub extern "C" fn fossknut_gap(state: &mut [u8; 16])
+pub fn fossknut_gap(state: &mut [u8; 16])
     ensures { state.new ≡ state_bytes (gap_of (state_of state.old)) }
 {
     *state = state_bytes(receiver::gap(state_of(state)));
 }
 
 // The sender. The address is six numbers in printed order, any flag but 0 is 1, and the total length goes to `length`.
-#[unsafe(no_mangle)]
-pub extern "C" fn fossknut_send(
+pub fn fossknut_send(
     mac1: u8,
     mac2: u8,
     mac3: u8,
@@ -105,8 +101,7 @@ pub extern "C" fn fossknut_send(
 }
 
 // The same with no piece size given: no section has more than 1,024 bytes.
-#[unsafe(no_mangle)]
-pub extern "C" fn fossknut_send_by_default(
+pub fn fossknut_send_by_default(
     mac1: u8,
     mac2: u8,
     mac3: u8,
@@ -131,8 +126,7 @@ pub extern "C" fn fossknut_send_by_default(
 
 // The INT reader for the device with this address in printed order. With 3 `offset` is where the nine bytes begin in the section; with any
 // other answer it is 0.
-#[unsafe(no_mangle)]
-pub extern "C" fn fossknut_notification(
+pub fn fossknut_notification(
     mac1: u8,
     mac2: u8,
     mac3: u8,
@@ -150,8 +144,7 @@ pub extern "C" fn fossknut_notification(
 }
 
 // The PES data packet reader: the answer; flags, values, the data's offset in the packet and its length go through the numbers lent.
-#[unsafe(no_mangle)]
-pub extern "C" fn fossknut_pes(
+pub fn fossknut_pes(
     packet: &[u8],
     extended: &mut u8,
     rated: &mut u8,
