@@ -101,5 +101,5 @@ fn main(rt: HostRuntime) {
     let input = read_input(&rt, &mut buffer);
     let sections = archive(input, &buffer, &mut out, &mut number);
     let written = answer(&rt, &mut rt.stderr(), number, sections);
-    stream::say(&rt, failure(input, number, written));
+    stream::say(failure(input, number, written));
 }

@@ -370,5 +370,5 @@ fn main(rt: HostRuntime) {
     let mut output = [0; 65536];
     let mut unit = [0; 65535];
     let end = list(&rt, &mut input, &mut output, &mut unit);
-    stream::say(&rt, failure(end));
+    stream::say(failure(end));
 }

@@ -6,9 +6,8 @@ ghost use Rattle.std.specs.Prelude.{◌≡◌, true, length};
 ghost use Rattle.io.specs.Counts.{IsPrefixLen};
 ghost use Rattle.stream.specs.Words.{Filled, word_of};
 
-use std::fs::OpenOptions;
 use std::io::{Error, ErrorKind, Read, Write};
-use std::rt::{Clock, Files};
+use std::rt::Clock;
 use std::thread;
 use std::time::Duration;
 
@@ -28,9 +27,8 @@ pub enum Failure {
     Refused,
 }
 
-// Where whoever starts a program may listen for its word on failure: descriptor 3. Where it is not open, the word is lost and nothing
-// else happens.
-const LISTENER: &str = "/dev/fd/3";
+// Where whoever starts a program may listen for its word on failure. Where it is not open, the word is lost and nothing else happens.
+const LISTENER: i32 = 3;
 
 // Waits a millisecond.
 fn pause(clock: &impl Clock) {
@@ -105,26 +103,19 @@ pub fn write_whole(clock: &impl Clock, output: &mut impl Write, text: &[u8]) -> 
     true
 }
 
-// The one write to the listener: what it is given has to be the failure's word.
-fn tell(rt: &(impl Files + Clock), failure: Failure, word: &[u8])
+// The one write to the listener: what it is given has to be the failure's word. It is the kit's, which writes to a number; std has none.
+fn tell(failure: Failure, word: &[u8])
     requires { word.now ≡ word_of failure }
 {
-    if word.is_empty() {
-        return;
-    }
-    let mut options = OpenOptions::new();
-    options.append(true);
-    if let Ok(mut listener) = options.open(rt, LISTENER) {
-        write_whole(rt, &mut listener, word);
-    }
+    io::write_all(LISTENER, word);
 }
 
 // Tells the listener why the work is not done; where it is done, nothing is told.
-pub fn say(rt: &(impl Files + Clock), failure: Failure) {
+pub fn say(failure: Failure) {
     match failure {
-        Failure::Nothing => tell(rt, failure, b""),
-        Failure::Reading => tell(rt, failure, b"input\n"),
-        Failure::Writing => tell(rt, failure, b"output\n"),
-        Failure::Refused => tell(rt, failure, b"refused\n"),
+        Failure::Nothing => tell(failure, b""),
+        Failure::Reading => tell(failure, b"input\n"),
+        Failure::Writing => tell(failure, b"output\n"),
+        Failure::Refused => tell(failure, b"refused\n"),
     }
 }
