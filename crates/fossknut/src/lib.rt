@@ -22,10 +22,14 @@ pub fn fossknut_crc_32(s: &[u8]) -> u32
 }
 
 // The first of 12 to 19 and 24, which stands at 15's place, that applies to a datagram section, else 0.
+#[tactic(auto, unfolding(rules::specs::Told::refusal_number))]
 pub fn fossknut_check(s: &[u8]) -> u8
     ensures { result ≡ check s.now }
 {
-    section_check::check(s)
+    match section_check::check(s) {
+        Ok(()) => 0,
+        Err(refusal) => refusal.number(),
+    }
 }
 
 // One step of the receiver, its own address in printed order. Answers the paper's number; `length` gets the unit length.
@@ -61,11 +65,9 @@ pub fn fossknut_receive(
 {
     let settings = settings_of(mac1, mac2, mac3, mac4, mac5, mac6, range, limit);
     let step = receiver::receive(settings, state_of(state), s, buffer);
-    let answer = step.answer;
-    let after = step.state;
-    *state = state_bytes(after);
-    *length = answer_numbers::length_of(answer);
-    answer_numbers::number_of(answer)
+    *state = state_bytes(step.state);
+    *length = answer_numbers::length_of(step.answer);
+    answer_numbers::number_of(step.answer)
 }
 
 // A gap notice: the bytes become those of the idle state.
