@@ -9,7 +9,7 @@ use lib.Dec.{eqb}
 use borrow.Author.Tests.{eq-eqb, eqb-true, ltb-false, ne_eqb}
 use Rattle.wire.specs.Choice.{pick, first, first_of}
 use Rattle.wire.proofs.Choice.{either_false}
-use Rattle.pes_rules.specs.declared.Reading.{Reading}
+use Rattle.pes_rules.specs.Reading.{Reading}
 use Rattle.pes_rules.specs.Packet.{data_offset, wrong_size, other_identifier, wrong_flags, wrong_header_length, refusal, refused, taken, read_of}
 
 -- ---- the table

@@ -8,7 +8,7 @@ use lib.Seq.{slice}
 use mathlib.Core.Logic.{inl}
 use Rattle.wire.specs.Bytes.{bytes_of}
 use Rattle.wire.specs.Part.{part}
-use Rattle.pes_rules.specs.declared.Reading.{Reading}
+use Rattle.pes_rules.specs.Reading.{Reading}
 use Rattle.pes_rules.specs.Packet.{refusal, read_of, refused}
 use Rattle.pes_rules.specs.Written.{extension_field, flags_byte, Gives, optional_fields, OthersGiveNothing, packet_of, rate_field, SampleIsWritten, TakenExactly, zeros}
 use Rattle.pes_rules.proofs.Answer.{read_refused, read_taken}

@@ -16,8 +16,8 @@ use Rattle.wire.specs.Choice.{pick, both, either}
 use Rattle.wire.specs.Part.{part}
 use Rattle.wire.proofs.Bytes.{append_bytes, bytes_of_bytes, cons_bytes, length_bytes_of, number_at_bytes_of}
 use Rattle.wire.proofs.Choice.{not_either}
-use Rattle.pes_rules.specs.Packet.{data_identifier, sub_stream_id, pts_extension_flag, output_data_rate_flag, pes_data_packet_header_length, flagged, pts_extension, rate_offset, output_data_rate, private_offset, data_offset, wrong_size, other_identifier, wrong_flags, wrong_header_length, taken, read_of}
-use Rattle.pes_rules.specs.declared.Reading.{Reading}
+use Rattle.pes_rules.specs.Packet.{pts_extension_flag, output_data_rate_flag, pes_data_packet_header_length, flagged, pts_extension, rate_offset, output_data_rate, private_offset, data_offset, wrong_size, other_identifier, wrong_flags, wrong_header_length, taken, read_of}
+use Rattle.pes_rules.specs.Reading.{Reading}
 use Rattle.pes_rules.specs.Written.{Conforms, extension_field, flags_byte, optional_fields, packet_of, PacketIsBytes, rate_field, reading_of, Stream, Values, WrittenIsRead}
 use Rattle.pes_rules.proofs.Answer.{refusal_none, None, read_taken}
 
