@@ -11,6 +11,8 @@ ghost use Rattle.pes_rules.specs.Told.{told, told_refusal};
 use pes_rules::{Packet, Refusal};
 use wire::byte_at;
 
+// The two flags have each a function, though one that takes the bit's number could give both: that is no plainer, as each is a field of the
+// table by its name and one line.
 fn pts_extension_flag(packet: &[u8]) -> bool
     ensures { result ≡ pts_extension_flag packet.now }
 {
@@ -149,7 +151,7 @@ pub fn read(packet: &[u8]) -> Result<Packet, Refusal>
 }
 
 // The data of the packet as a part of it, empty where it is refused.
-#[tactic(auto, using(pes_rules::proofs::Told::packet_within, pes_rules::proofs::Told::packet_data, pes_rules::proofs::Told::no_data))]
+#[tactic(auto, using(pes_rules::proofs::Told::packet_within))]
 pub fn data<'a>(packet: &'a [u8]) -> &'a [u8]
     ensures { Is packet.entry.ref_ptr (data_part packet.now) result }
 {

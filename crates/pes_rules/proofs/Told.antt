@@ -1,18 +1,14 @@
 -- Two results that are read as the same numbers are the same: each is found again from its numbers. And a packet's data is where the result says.
-use Prim.Native.Nat.{ℕ, ◌-◌}
+use Prim.Native.Nat.{ℕ}
 use mathlib.Core.Path.{◌≡◌, refl, sym, ap, ◌∙◌}
 use mathlib.Core.Bool.{Bool, cond}
-use mathlib.Core.List.{List, []}
+use mathlib.Core.List.{List}
 use lib.Dec.{eqb}
-use lib.ListN.{take, drop}
-use lib.Seq.{slice}
 use Rattle.std.proofs.Common.{Option, Some, None, is_some, unwrap_or, Result, Ok, Err}
-use Rattle.wire.specs.Part.{part}
-use Rattle.pes_rules.specs.Packet.{data_part, read_of}
+use Rattle.pes_rules.specs.Packet.{read_of}
 use Rattle.pes_rules.specs.Reading.{Reading}
 use Rattle.pes_rules.specs.Told.{told}
 use Rattle.pes_rules.proofs.Answer.{data_within, Within}
-use Rattle.pes_rules.proofs.Bytes.{slice_is}
 use Rattle.pes_rules.specs.declared.Packet.{Packet}
 use Rattle.pes_rules.specs.declared.Refusal.{Refusal}
 use Rattle.pes_rules.specs.declared.Refusal.TheVariants.{Length, DataIdentifier, Flags, HeaderLength}
@@ -46,10 +42,3 @@ told_injective x y e = sym (found_again x) ∙ ap result_of e ∙ found_again y
 -- ---- where the data of a packet is
 pub packet_within : (s : List ℕ) (p : Packet) → told (Ok p) ≡ read_of s → Within p.offset p.end s
 packet_within s p e = data_within s (told (Ok p)) e
-
-pub packet_data : (s : List ℕ) (p : Packet) → told (Ok p) ≡ read_of s → data_part s ≡ part p.offset (take (p.end - p.offset) (drop p.offset s))
-packet_data s p e =
-    ap (λ (r : Reading). part r.offset (slice r.offset r.end s)) (sym e) ∙ ap (part p.offset) (slice_is p.offset p.end s)
-
-pub no_data : (s : List ℕ) (r : Refusal) → told (Err r) ≡ read_of s → data_part s ≡ part 0 []
-no_data s r e = ap (λ (r : Reading). part r.offset (slice r.offset r.end s)) (sym e)
