@@ -7,7 +7,7 @@ use mathlib.Core.Bool.{Bool, true, false}
 use lib.ListN.{length}
 use lib.Dec.{eqb, lit<}
 use borrow.Author.Tests.{eq-eqb, eqb-true, ltb-false, ne_eqb}
-use Rattle.wire.specs.Choice.{pick, both, first, first_of, line, without}
+use Rattle.wire.specs.Choice.{pick, both, first, first_of, without}
 use Rattle.wire.proofs.Choice.{either_false, first_of_without, none_first}
 use Rattle.pes_rules.specs.Reading.{Reading}
 use Rattle.pes_rules.specs.Packet.{data_offset, wrong_size, other_identifier, wrong_flags, wrong_header_length, refusal, refusal_lines, refused, taken, read_of}
@@ -25,10 +25,10 @@ not_five s = first_of_without 5 (refusal_lines s) refl (λ e. omega arith)
 
 pub no_refusal : (s : List ℕ) → refusal s ≡ 0 → None s
 no_refusal s e =
-    let a = none_first (line 40 (wrong_size s)) _ (lit< tt) e in
-    let b = none_first (line 41 (other_identifier s)) _ (lit< tt) a.1 in
-    let c = none_first (line 42 (wrong_flags s)) _ (lit< tt) b.1 in
-    let d = none_first (line 43 (wrong_header_length s)) [] (lit< tt) c.1 in
+    let a = none_first _ _ (lit< tt) e in
+    let b = none_first _ _ (lit< tt) a.1 in
+    let c = none_first _ _ (lit< tt) b.1 in
+    let d = none_first _ [] (lit< tt) c.1 in
     record { no40 = a.0; no41 = b.0; no42 = c.0; no43 = d.0 }
 
 pub refusal_none : (s : List ℕ) → None s → refusal s ≡ 0
