@@ -165,12 +165,24 @@ pub fn fossknut_pes(
         offset.new
         length.new }
 {
-    let reading = pes::read(packet);
-    *extended = reading.extended as u8;
-    *rated = reading.rated as u8;
-    *extension = reading.extension as usize;
-    *rate = reading.rate as usize;
-    *offset = reading.offset;
-    *length = reading.end - reading.offset;
-    reading.answer
+    match pes::read(packet) {
+        Ok(p) => {
+            *extended = p.extension.is_some() as u8;
+            *rated = p.rate.is_some() as u8;
+            *extension = p.extension.unwrap_or(0) as usize;
+            *rate = p.rate.unwrap_or(0) as usize;
+            *offset = p.offset;
+            *length = p.end - p.offset;
+            5
+        }
+        Err(refusal) => {
+            *extended = 0;
+            *rated = 0;
+            *extension = 0;
+            *rate = 0;
+            *offset = 0;
+            *length = 0;
+            u8::from(refusal)
+        }
+    }
 }
