@@ -4,7 +4,7 @@
 
 ghost use Rattle.std.specs.Prelude.{◌≡◌};
 ghost use Rattle.wire.specs.Choice.{first_of};
-ghost use Rattle.rules.specs.Check.{too_short, other_table, wrong_length, checksum_form, wrong_syntax, wrong_crc, not_current, out_of_order, address_scrambled, form_lines, order_lines, shared_refusal, datagram_form, check};
+ghost use Rattle.rules.specs.Check.{too_short, other_table, wrong_length, checksum_form, wrong_syntax, wrong_crc, not_current, out_of_order, address_scrambled, form_lines, order_lines, shared_refusal, check};
 ghost use Rattle.rules.specs.Told.{refusal_number};
 
 use rules::{Form, Refusal};
@@ -127,21 +127,17 @@ pub fn shared_refusal(form: Form, s: &[u8]) -> Result<(), Refusal>
 }
 
 // The datagram section's form.
-fn datagram_form() -> Form
-    ensures { result ≡ datagram_form }
-{
-    Form {
-        fewest: 16,
-        table: 0x3e,
-        private: true,
-    }
-}
+const DATAGRAM: Form = Form {
+    fewest: 16,
+    table: 0x3e,
+    private: true,
+};
 
 // The first of 12 to 19 and 24 that applies to a datagram section.
 pub fn check(s: &[u8]) -> Result<(), Refusal>
     ensures { refusal_number result ≡ check s.now }
 {
-    shared_refusal(datagram_form(), s)?;
+    shared_refusal(DATAGRAM, s)?;
     if address_scrambled(s) {
         return Err(Refusal::AddressScrambling);
     }
