@@ -116,6 +116,7 @@ fn order_refusal(s: &[u8]) -> Result<(), Refusal>
 
 // The first of 12 to 18 and 24 that applies to a section of this form. The CRC_32 is computed only where 12 to 15 and 24 leave it to: in the
 // checksum form there is none, and the last four bytes are not looked at.
+#[tactic(auto, unfolding(rules::specs::Told::number, rules::specs::Told::refusal_number, rules::specs::Check::shared_refusal, rules::specs::Check::shared_lines, wire::specs::Choice::first_of, wire::specs::Choice::first), using(wire::proofs::Choice::first_of_here, wire::proofs::Choice::first_of_past, rules::proofs::Check::form_numbered, rules::proofs::Told::numbered))]
 pub fn shared_refusal(form: Form, s: &[u8]) -> Result<(), Refusal>
     ensures { refusal_number result ≡ shared_refusal form s.now }
 {
@@ -134,6 +135,7 @@ const DATAGRAM: Form = Form {
 };
 
 // The first of 12 to 19 and 24 that applies to a datagram section.
+#[tactic(auto, unfolding(rules::specs::Told::number, rules::specs::Told::refusal_number, rules::specs::Check::shared_refusal, rules::specs::Check::check_lines, rules::specs::Check::check, wire::specs::Choice::first_of, wire::specs::Choice::first), using(wire::proofs::Choice::first_of_here, wire::proofs::Choice::first_of_past, rules::proofs::Check::shared_numbered, rules::proofs::Told::numbered))]
 pub fn check(s: &[u8]) -> Result<(), Refusal>
     ensures { refusal_number result ≡ check s.now }
 {
