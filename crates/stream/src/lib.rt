@@ -2,9 +2,9 @@
 // failed is told in one word. What the system moves cannot be said in a contract: a contract says what was answered and handed over.
 #![tactic(auto)]
 
-ghost use Rattle.std.specs.Prelude.{◌≡◌, Ok, IsOkUnless, length};
+ghost use Rattle.std.specs.Prelude.{◌≡◌, Ok, IfSome, IsOkUnless, length};
 ghost use Rattle.stream.specs.declared.Failure.TheVariants.{Reading, Writing};
-ghost use Rattle.stream.specs.Words.{Filled, word_of};
+ghost use Rattle.stream.specs.Words.{Filled, Moved, word_of};
 
 use std::io::{Error, ErrorKind, Read, Write};
 use std::rt::Clock;
@@ -41,8 +41,31 @@ fn again(clock: &impl Clock, error: Error) -> bool {
     false
 }
 
-// One read of the input, which may give one byte: how many bytes it gave at the start of the buffer, 0 at the end of the input. A
-// proved loop has to end, and nothing says that the wait does: no wait uses up so many turns.
+// Makes a call until it moves something, or fails for good. A proved loop has to end, and nothing says that the wait does: no wait
+// uses up so many turns. The call is handed what it changes, so that it is the same call each time.
+fn retry<S, F: Fn(&mut S, &mut [u8]) -> std::io::Result<usize>>(
+    clock: &impl Clock,
+    stream: &mut S,
+    buffer: &mut [u8],
+    call: F,
+) -> Option<usize>
+    requires { F.IsAlwaysCallable call }
+    ensures { IfSome result (λ n. Moved (F.post call) n buffer.new) }
+{
+    for _ in 0..u64::MAX {
+        match call(stream, buffer) {
+            Ok(moved) => return Some(moved),
+            Err(error) => {
+                if !again(clock, error) {
+                    break;
+                }
+            }
+        }
+    }
+    None
+}
+
+// One read of the input, which may give one byte: how many bytes it gave at the start of the buffer, 0 at the end of the input.
 pub fn read_some(
     clock: &impl Clock,
     input: &mut impl Read,
@@ -51,35 +74,15 @@ pub fn read_some(
     ensures filled { Filled result buffer.new }
     ensures failed { IsOkUnless result Reading }
 {
-    for _ in 0..u64::MAX {
-        match input.read(buffer) {
-            Ok(got) => return Ok(got),
-            Err(error) => {
-                if !again(clock, error) {
-                    break;
-                }
-            }
-        }
-    }
-    Err(Failure::Reading)
+    retry(clock, input, buffer, |input, buffer| input.read(buffer)).ok_or(Failure::Reading)
 }
 
-// One write, of a byte or more unless it fails.
+// One write, of a byte or more unless it fails. It changes no buffer.
 fn write_some(clock: &impl Clock, output: &mut impl Write, text: &[u8]) -> Result<usize, Failure>
     ensures put { Filled result text.now }
     ensures failed { IsOkUnless result Writing }
 {
-    for _ in 0..u64::MAX {
-        match output.write(text) {
-            Ok(put) => return Ok(put),
-            Err(error) => {
-                if !again(clock, error) {
-                    break;
-                }
-            }
-        }
-    }
-    Err(Failure::Writing)
+    retry(clock, output, &mut [], |output, _| output.write(text)).ok_or(Failure::Writing)
 }
 
 // Writes all of the text, each write after the bytes that the last one took. An empty text cannot fail.
