@@ -146,6 +146,7 @@ pub fn fossknut_notification(
 }
 
 // The PES data packet reader: the answer; flags, values, the data's offset in the packet and its length go through the numbers lent.
+#[tactic(auto, using(pes_rules::proofs::Told::packet_within), unfolding(caller_numbers::specs::Numbers::flag_number, wire::specs::Choice::pick))]
 pub fn fossknut_pes(
     packet: &[u8],
     extended: &mut u8,
