@@ -17,7 +17,7 @@ pub fn number_of(answer: Result<Reception, Refusal>) -> u8
         Ok(Reception::Delivered(_)) => 0,
         Ok(Reception::Stored) => 1,
         Ok(Reception::PassedBy) => 2,
-        Err(refusal) => refusal.number(),
+        Err(refusal) => u8::from(refusal),
     }
 }
 
@@ -41,7 +41,7 @@ pub fn sending_number(sending: Result<usize, Refusal>) -> u8
 {
     match sending {
         Ok(_) => 0,
-        Err(unsent) => unsent.number(),
+        Err(unsent) => u8::from(unsent),
     }
 }
 

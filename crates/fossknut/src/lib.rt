@@ -28,7 +28,7 @@ pub fn fossknut_check(s: &[u8]) -> u8
 {
     match section_check::check(s) {
         Ok(()) => 0,
-        Err(refusal) => refusal.number(),
+        Err(refusal) => u8::from(refusal),
     }
 }
 
