@@ -1,6 +1,7 @@
 -- The real contract of each open function, under one name: its parameters, its result, and what a caller learns.
 use Rattle.demands.specs.Allowed.{Function, function}
 use Rattle.wire.proofs as wire
+use Rattle.rules.proofs as rules
 use Rattle.crc.proofs as crc
 use Rattle.section_fields.proofs as section_fields
 use Rattle.section_header.proofs as section_header
@@ -46,6 +47,9 @@ either = function wire.either.Kinds.ps wire.either.Kinds.r wire.either.Reads.Lea
 
 abbrev pub first : Function
 first = function wire.first.Kinds.ps wire.first.Kinds.r wire.first.Reads.Learnt
+
+abbrev pub number : Function
+number = function rules.Refusal.number.Kinds.ps rules.Refusal.number.Kinds.r rules.Refusal.number.Reads.Learnt
 
 abbrev pub crc_32 : Function
 crc_32 = function crc.crc_32.Kinds.ps crc.crc_32.Kinds.r crc.crc_32.Reads.Learnt

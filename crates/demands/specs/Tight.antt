@@ -28,6 +28,8 @@ pub record Tight : Type 0 where
       (λ κs z y (_, (e, _)) (_, (d, _)). e.now ≡ d.now)
   pub put : AnyTwo contracts.put
       (λ κs z y (_, (_, (e, _))) (_, (_, (d, _))). (z ≡ y) × (e.now ≡ d.now))
+  -- rules
+  pub number : OneResult contracts.number
   -- crc
   pub crc_32 : OneResult contracts.crc_32
   -- section_fields

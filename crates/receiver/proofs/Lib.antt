@@ -1,1 +1,1 @@
-mod Laws
+pub mod Outcomes
