@@ -9,7 +9,7 @@ ghost use Rattle.vectors.specs.Text.{digit, word};
 use rules::Sending;
 use std::{array, io};
 
-// Not `{:08X}`: what a format prints is in no contract, and this text is proved to be specs/Text.antt's.
+// Not `{:08X}`: specs/Text.antt says what this text is, and no contract says what `print!` writes.
 #[tactic(auto, unfolding(crate::specs::Text::digit, wire::specs::Choice::pick))]
 fn digit(n: u32) -> u8
     requires { n < 16 }
