@@ -6,7 +6,7 @@ ghost use Rattle.std.specs.Prelude.{◌≡◌, ◌+◌, ◌≤◌, length};
 ghost use Rattle.wire.specs.Choice.{first_of};
 ghost use Rattle.rules.specs.Section.{payload};
 ghost use Rattle.rules.specs.Told.{refusal_number};
-ghost use Rattle.rules.specs.Step.{good_run, good_state, setup_lines, key_of, continues, From, fill_from, ours, payload_scrambled, over_limit};
+ghost use Rattle.rules.specs.Step.{good_run, good_state, setup_lines, key_of, same_key, continues, From, fill_from, ours, payload_scrambled, over_limit};
 ghost use Rattle.rules.specs.Step.{own_refusal, room, finish, keep, lay, step_of, gap_of, Does};
 ghost use Rattle.receiver.specs.Stepped.{stepped, fill_told};
 
@@ -48,12 +48,19 @@ fn key_of(s: &[u8]) -> Key
     }
 }
 
-// The keys are equal in all six bytes of the address, whatever the range.
+// All six bytes of the address are compared, whatever the range.
+#[tactic(auto, using(crate::proofs::Keys::compared))]
+fn same_key(a: Key, b: Key) -> bool
+    ensures { result ≡ same_key a b }
+{
+    a == b
+}
+
 #[tactic(auto, unfolding(rules::specs::Step::continues, wire::specs::Choice::both))]
 fn continues(next: usize, key: Key, s: &[u8]) -> bool
     ensures { result ≡ continues next key s.now }
 {
-    usize::from(section_number(s)) == next && key_of(s) == key
+    usize::from(section_number(s)) == next && same_key(key_of(s), key)
 }
 
 #[tactic(auto, unfolding(rules::specs::Step::ours))]
