@@ -8,11 +8,11 @@ use Rattle.rules.specs.declared.Step.{Step}
 use Rattle.rules.specs.Step.{Fill, Nowhere, From}
 
 -- the step that has this reception and the state after it; a refusal drops the run
-unfoldable pub stepped : Result (Reception × State) Refusal → Step
+abbrev pub stepped : Result (Reception × State) Refusal → Step
 stepped (Ok t) = record { answer = Ok t.0; state = t.1 }
 stepped (Err r) = record { answer = Err r; state = Idle }
 
 -- where a payload goes
-unfoldable pub fill_told : Option ℕ → Fill
+abbrev pub fill_told : Option ℕ → Fill
 fill_told None = Nowhere
 fill_told (Some f) = From f

@@ -6,7 +6,7 @@ ghost use Rattle.std.specs.Prelude.{◌≡◌, ◌+◌, ◌≤◌, length};
 ghost use Rattle.wire.specs.Choice.{first_of};
 ghost use Rattle.rules.specs.Section.{payload};
 ghost use Rattle.rules.specs.Told.{refusal_number};
-ghost use Rattle.rules.specs.Step.{good_run, good_state, setup_lines, key_of, continues, From, fill_from, ours, payload_scrambled, over_limit};
+ghost use Rattle.rules.specs.Step.{good_run, good_state, setup_lines, key_of, same_key, continues, From, fill_from, ours, payload_scrambled, over_limit};
 ghost use Rattle.rules.specs.Step.{own_refusal, room, finish, keep, lay, step_of, gap_of, Does};
 ghost use Rattle.receiver.specs.Stepped.{stepped, fill_told};
 
@@ -48,12 +48,19 @@ fn key_of(s: &[u8]) -> Key
     }
 }
 
-// The keys are equal in all six bytes of the address, whatever the range.
+// All six bytes of the address are compared, whatever the range.
+#[tactic(auto, using(crate::proofs::Keys::compared))]
+fn same_key(a: Key, b: Key) -> bool
+    ensures { result ≡ same_key a b }
+{
+    a == b
+}
+
 #[tactic(auto, unfolding(rules::specs::Step::continues, wire::specs::Choice::both))]
 fn continues(next: usize, key: Key, s: &[u8]) -> bool
     ensures { result ≡ continues next key s.now }
 {
-    usize::from(section_number(s)) == next && key_of(s) == key
+    usize::from(section_number(s)) == next && same_key(key_of(s), key)
 }
 
 #[tactic(auto, unfolding(rules::specs::Step::ours))]
@@ -107,7 +114,7 @@ fn own_refusal(settings: Settings, s: &[u8]) -> Result<(), Refusal>
 
 // Finishes the unit with the payload of s, which fits. Where the unit ends is read from what is stored and from the payload before anything is
 // written, so that a refusal leaves the buffer as it was.
-#[tactic(auto, unfolding(rules::specs::Step::finish, rules::specs::Step::joined_with, rules::specs::Step::laid, rules::specs::Step::room, rules::specs::Step::up_to, crate::specs::Stepped::stepped, rules::specs::Told::answer_told, rules::specs::Told::number))]
+#[tactic(auto, unfolding(rules::specs::Step::finish, rules::specs::Step::joined_with, rules::specs::Step::laid, rules::specs::Step::room, rules::specs::Step::up_to, rules::specs::Told::answer_told, rules::specs::Told::number))]
 fn finish(f: usize, s: &[u8], buffer: &mut [u8]) -> Result<(Reception, State), Refusal>
     requires { f + length (payload s.now) ≤ room buffer.old }
     ensures { Does (finish f s.now buffer.old) (stepped result) buffer.new }
@@ -119,7 +126,7 @@ fn finish(f: usize, s: &[u8], buffer: &mut [u8]) -> Result<(Reception, State), R
 }
 
 // The last section finishes the unit; the payload of any other, which fits, is stored, and the run is open.
-#[tactic(auto, unfolding(rules::specs::Step::keep, rules::specs::Step::laid, rules::specs::Step::room, wire::specs::Choice::pick, crate::specs::Stepped::stepped, rules::specs::Told::answer_told))]
+#[tactic(auto, unfolding(rules::specs::Step::keep, rules::specs::Step::laid, rules::specs::Step::room, wire::specs::Choice::pick, rules::specs::Told::answer_told))]
 fn keep(f: usize, s: &[u8], buffer: &mut [u8]) -> Result<(Reception, State), Refusal>
     requires { f + length (payload s.now) ≤ room buffer.old }
     ensures { Does (keep f s.now buffer.old) (stepped result) buffer.new }
@@ -137,7 +144,7 @@ fn keep(f: usize, s: &[u8], buffer: &mut [u8]) -> Result<(Reception, State), Ref
 }
 
 // Lays the payload of s over the buffer from f on, where it has room; no sum is computed that could be too large.
-#[tactic(auto, unfolding(rules::specs::Step::lay, rules::specs::Step::room, wire::specs::Choice::pick, crate::specs::Stepped::stepped, rules::specs::Told::answer_told, rules::specs::Told::number))]
+#[tactic(auto, unfolding(rules::specs::Step::lay, rules::specs::Step::room, wire::specs::Choice::pick, rules::specs::Told::answer_told, rules::specs::Told::number))]
 fn lay(f: usize, s: &[u8], buffer: &mut [u8]) -> Result<(Reception, State), Refusal>
     ensures { Does (lay (From f) s.now buffer.old) (stepped result) buffer.new }
 {
@@ -149,7 +156,7 @@ fn lay(f: usize, s: &[u8], buffer: &mut [u8]) -> Result<(Reception, State), Refu
 }
 
 // Where the payload of s goes: number 0 starts a run and forgets any open one; another number goes on with the open run or goes nowhere.
-#[tactic(auto, unfolding(rules::specs::Step::fill_from, rules::specs::Step::onward, wire::specs::Choice::pick, crate::specs::Stepped::fill_told))]
+#[tactic(auto, unfolding(rules::specs::Step::fill_from, rules::specs::Step::onward, wire::specs::Choice::pick))]
 fn fill_from(state: State, s: &[u8]) -> Option<usize>
     ensures { fill_told result ≡ fill_from state s.now }
 {
@@ -162,8 +169,8 @@ fn fill_from(state: State, s: &[u8]) -> Option<usize>
     }
 }
 
-// The numbers of the papers in their order; 2 stands before 20.
-#[tactic(auto, unfolding(rules::specs::Step::step_of, rules::specs::Step::own_refusal, rules::specs::Step::lay, rules::specs::Check::check, wire::specs::Choice::pick, crate::specs::Stepped::stepped, crate::specs::Stepped::fill_told, rules::specs::Told::refusal_number, rules::specs::Told::answer_told, rules::specs::Told::number), using(crate::proofs::Outcomes::past, crate::proofs::Outcomes::refused))]
+// The table of document 01 in its order: 10 and 11, 12 to 19 and 24, 2, 20 and 21, 22, 23, 25, and 0 or 1 where nothing refuses.
+#[tactic(auto, unfolding(rules::specs::Step::step_of, rules::specs::Step::own_refusal, rules::specs::Step::lay, rules::specs::Check::check, wire::specs::Choice::pick, rules::specs::Told::refusal_number, rules::specs::Told::answer_told, rules::specs::Told::number), using(crate::proofs::Outcomes::past, crate::proofs::Outcomes::refused))]
 fn step(
     settings: Settings,
     state: State,
@@ -183,7 +190,6 @@ fn step(
 }
 
 // Gives the receiver one section. A refusal drops the run.
-#[tactic(auto, unfolding(crate::specs::Stepped::stepped))]
 pub fn receive(settings: Settings, state: State, s: &[u8], buffer: &mut [u8]) -> Step
     ensures { Does (step_of settings state s.now buffer.old) result buffer.new }
 {
