@@ -28,6 +28,8 @@ pub record Tight : Type 0 where
       (λ κs z y (_, (e, _)) (_, (d, _)). e.now ≡ d.now)
   pub put : AnyTwo contracts.put
       (λ κs z y (_, (_, (e, _))) (_, (_, (d, _))). (z ≡ y) × (e.now ≡ d.now))
+  -- rules
+  pub refusal_number : OneResult contracts.refusal_number
   -- crc
   pub crc_32 : OneResult contracts.crc_32
   -- section_fields
@@ -73,7 +75,8 @@ pub record Tight : Type 0 where
   pub notification_read : AnyTwo contracts.notification_read
       (λ κs z y (_, (_, (e, _))) (_, (_, (d, _))). (e.now ≡ d.now) × SamePart z y)
   pub finding : OneResult contracts.finding
-  -- pes
+  -- pes_rules, pes
+  pub pes_refusal_number : OneResult contracts.pes_refusal_number
   pub pes_read : OneResult contracts.pes_read
   pub pes_data : AnyTwo contracts.pes_data
       (λ κs z y e d. SamePart z y)

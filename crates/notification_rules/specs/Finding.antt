@@ -8,8 +8,7 @@ use Rattle.wire.specs.Choice.{pick, both, Line, line, first_of}
 use Rattle.rules.specs.declared.Address.{Address}
 use Rattle.rules.specs.declared.Form.{Form}
 use Rattle.rules.specs.Check.{shared_lines}
-use Rattle.notification_rules.specs.declared.Finding.{Finding}
-use Rattle.notification_rules.specs.declared.Finding.TheVariants.{Found, Nobody, Refused}
+use Rattle.notification_rules.specs.Answers.{Finding, Found, Nobody, Refused}
 use Rattle.wire.specs.Part.{Part, part, Is}
 use Rattle.notification_rules.specs.Cut.{Cut, is_nil, every, odd}
 use Rattle.notification_rules.specs.Loop.{action_type, platform_id_hash, loop_cut, loops_of, content, descriptor_items, filled, tag, body_length, Pair, pairs_of}

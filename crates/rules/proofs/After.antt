@@ -13,10 +13,8 @@ use borrow.Author.Tests.{eq-eqb, eqb-false, eqb-true, leb-true, ne_eqb}
 use Rattle.wire.specs.Bytes.{bit, byte_at}
 use Rattle.wire.specs.Choice.{both, first_of, Line, pick, without}
 use Rattle.wire.proofs.Choice.{first_of_without}
-use Rattle.rules.specs.declared.Answer.{Answer}
-use Rattle.rules.specs.declared.Answer.TheVariants.{Delivered, PassedBy, Refused, Stored}
-use Rattle.rules.specs.declared.End.{End}
-use Rattle.rules.specs.declared.End.TheVariants.{At, NoEnd}
+use Rattle.rules.specs.Answers.{Delivered, PassedBy, Stored}
+use Rattle.std.specs.Prelude.{Option, Some, None}
 use Rattle.rules.specs.declared.Settings.{Settings}
 use Rattle.rules.specs.declared.State.{State}
 use Rattle.rules.specs.declared.State.TheVariants.{Idle, Open}
@@ -134,17 +132,17 @@ kept_after : (σ : State) (s b : List ℕ) (f : ℕ) → filled_before σ (byte_
 unfolding keep finish joined_with key_of address section_number last_section_number llc_snap_flag pick up_to number_of length_of
 kept_after σ s b f e = rw (laid_is f s b, stored_is s, ← e) (go (eqb (byte_at s 6) (byte_at s 7)) (unit_end (eqb (bit 1 (byte_at s 5)) 1) (joined_up σ s b)) refl)
   where
-    go : (t : Bool) (end : End) → unit_end (eqb (bit 1 (byte_at s 5)) 1) (joined_up σ s b) ≡ end
+    go : (t : Bool) (end : Option ℕ) → unit_end (eqb (bit 1 (byte_at s 5)) 1) (joined_up σ s b) ≡ end
         → let g : ℕ = filled_before σ (byte_at s 6) in
         After σ s b (pick t (up_to end b (stored_at g (stored s) b)) (outcome Stored (run_after s (g + length (stored s))) (stored_at g (stored s) b)))
-    go true (At n) q =
+    go true (Some n) q =
         record {
           refused = λ _ _ e. absurd (e refl);
           passed = λ e. absurd (omega arith);
           kept = λ e. absurd (omega arith);
           delivered = λ _. ((unit_ends (eqb (bit 1 (byte_at s 5)) 1) (joined_up σ s b) n).0 q, refl, refl);
         }
-    go true NoEnd q = refused_after σ s b 25 (refusing 25 (omega arith))
+    go true None q = refused_after σ s b 25 (refusing 25 (omega arith))
     go false end q =
         record {
           refused = λ _ e _. absurd (e refl);
@@ -190,9 +188,9 @@ kept_named : (f : ℕ) (s b : List ℕ) → Named (keep f s b)
 unfolding keep finish up_to
 kept_named f s b = pick_case Named _ _ _ (λ _. go (unit_end (llc_snap_flag s) (joined_with f s b))) (λ _. stored_named)
   where
-    go : (end : End) → Named (up_to end b (laid f s b))
-    go (At n) = delivered_named n
-    go NoEnd = refused_named b 25 (refusing 25 (omega arith))
+    go : (end : Option ℕ) → Named (up_to end b (laid f s b))
+    go (Some n) = delivered_named n
+    go None = refused_named b 25 (refusing 25 (omega arith))
 
 pub receiver_names : ReceiverNames
 receiver_names c σ s b = by_step σ s b Named (refused_named b) passed_named (λ f _ _. kept_named f s b) c

@@ -1,16 +1,15 @@
 -- Of the buffer only the room and, at number L, the end of the unit are asked; all else of an answer is by the section and the state.
-use Prim.Native.Nat.{ℕ, ◌+◌}
+use Prim.Native.Nat.{ℕ}
 use native.Mathlib.Omega.{arith}
 use mathlib.Core.Path.{◌≡◌, refl, ap}
 use mathlib.Core.List.{List, ◌++◌}
 use mathlib.Core.Bool.{Bool, true, false}
-use lib.ListN.{length, length-append, length-take, take}
+use lib.ListN.{length-append, length-take, take}
 use lib.Dec.{eqb}
 use borrow.Author.Tests.{eqb-false, eqb-true}
 use Rattle.wire.specs.Bytes.{bit, byte_at}
 use Rattle.wire.specs.Choice.{first_of, Line, pick}
-use Rattle.rules.specs.declared.End.{End}
-use Rattle.rules.specs.declared.End.TheVariants.{At, NoEnd}
+use Rattle.std.specs.Prelude.{Option, Some, None}
 use Rattle.rules.specs.declared.Key.{Key}
 use Rattle.rules.specs.declared.State.{State}
 use Rattle.rules.specs.declared.State.TheVariants.{Idle, Open}
@@ -31,10 +30,10 @@ refuses_alike : (lines : List Line) (b d : List ℕ) (o p : Outcome) → o.step 
 unfolding refuse_first
 refuses_alike lines b d o p e = pick_step (eqb (first_of lines) 0) o p _ _ e refl
 
-ends_alike : (end : End) (b d after later : List ℕ) → (up_to end b after).step ≡ (up_to end d later).step
+ends_alike : (end : Option ℕ) (b d after later : List ℕ) → (up_to end b after).step ≡ (up_to end d later).step
 unfolding up_to
-ends_alike (At n) b d after later = refl
-ends_alike NoEnd b d after later = refl
+ends_alike (Some n) b d after later = refl
+ends_alike None b d after later = refl
 
 -- where a payload goes, as many bytes are filled before it as the papers say
 filled_before_is : (σ : State) (s : List ℕ) (f : ℕ) → fill_from σ s ≡ From f → filled_before σ (byte_at s 6) ≡ f
@@ -61,7 +60,7 @@ module _ (σ : State) (s b d : List ℕ) (alike : ReadAlike σ s b d) where
   same_end f e last = go (eqb (bit 1 (byte_at s 5)) 1) refl
     where
       go : (t : Bool) → eqb (bit 1 (byte_at s 5)) 1 ≡ t → unit_end t (take f b ++ payload s) ≡ unit_end t (take f d ++ payload s)
-      go true q = ap At (rw (length-append (take f b) (payload s), length-append (take f d) (payload s), length-take f b, length-take f d, alike.size))
+      go true q = ap Some (rw (length-append (take f b) (payload s), length-append (take f d) (payload s), length-take f b, length-take f d, alike.size))
       go false q =
           let off : bit 1 (byte_at s 5) ≡ 0 = omega (arith, eqb-false (bit 1 (byte_at s 5)) 1 q) in
           let before : take f b ≡ take f d = rw e at (alike.before last off) in rw before

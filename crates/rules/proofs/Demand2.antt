@@ -9,10 +9,9 @@ use lib.ListN.{length, take, length-take}
 use Rattle.wire.specs.Bytes.{number_at}
 use Rattle.wire.specs.Choice.{both}
 use Rattle.rules.specs.declared.Settings.{Settings}
-use Rattle.rules.specs.declared.End.TheVariants.{At}
+use Rattle.std.specs.Prelude.{Some}
 use Rattle.rules.specs.declared.Key.{Key}
-use Rattle.rules.specs.declared.Answer.TheVariants.{Delivered, Stored}
-use Rattle.rules.specs.declared.Sending.TheVariants.{Sent}
+use Rattle.rules.specs.Answers.{Delivered, Stored, Sent}
 use Rattle.rules.specs.Recording.{offers}
 use Rattle.rules.specs.Demand2.{answer_at, Arrives, RoundTrip}
 use Rattle.rules.specs.Demand3 as InWords
@@ -32,8 +31,7 @@ use Rattle.rules.proofs.Due.{Due, refused, finished, stored, due, due_holds, Hol
 use Rattle.rules.proofs.Lists.{map_more}
 use Rattle.rules.proofs.Runs.{EndsIn, only}
 use Rattle.rules.proofs.Sections.{sections_are, sections_sent}
-use Rattle.rules.proofs.Send.{Accepted, count_some, SentAll, sent_all, sent_all_bytes, joined_to, piece_small}
-use Rattle.rules.proofs.Send.{section_size, section_written, sections_at, sections_joined, sections_length, sections_take}
+use Rattle.rules.proofs.Send.{Accepted, count_some, SentAll, sent_all, sent_all_bytes, joined_to, piece_small, section_size, section_written, sections_at, sections_joined, sections_length, sections_take}
 
 -- ---- each section is receivable
 after_more : (c : Settings) (h : Held) (r : List Event) (e : Event) → after c h (r ++ (e ∷ [])) ≡ next c (after c h r) e
@@ -162,7 +160,7 @@ module _ (c : Settings) (llc_snap : Bool) (n : ℕ) (u out : List ℕ) (a : Acce
         let all : joined g.sections ≡ u =
         ap joined (same.sections ∙ ap to is) ∙ sections_joined c llc_snap n u a.some a.most in
         let size : f ≡ length u = sym g.filled ∙ ap length all in
-        let ends : unit_end (key_of (at k)).llc_snap (joined g.sections) ≡ At (length u) =
+        let ends : unit_end (key_of (at k)).llc_snap (joined g.sections) ≡ Some (length u) =
         ap₂ (λ (κ : Key) (p : List ℕ). unit_end κ.llc_snap p) p.agrees all ∙ a.ends in
         rw ends
         (record {

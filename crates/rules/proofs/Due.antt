@@ -10,23 +10,20 @@ use borrow.Author.Tests.{eqb-true, eqb-false, leb-true, leb-false, not-true}
 use Rattle.wire.specs.Choice.{pick, both, first, first_of}
 use Rattle.wire.proofs.Choice.{both_true, never}
 use Rattle.rules.specs.declared.Settings.{Settings}
-use Rattle.rules.specs.declared.End.{End}
+use Rattle.std.specs.Prelude.{Option}
 use Rattle.rules.specs.declared.Key.{Key}
 use Rattle.rules.specs.declared.State.{State}
 use Rattle.rules.specs.declared.State.TheVariants.{Open}
-use Rattle.rules.specs.declared.Answer.TheVariants.{Stored, PassedBy}
+use Rattle.rules.specs.Answers.{Stored, PassedBy}
 use Rattle.rules.specs.Section.{section_number, payload}
 use Rattle.rules.specs.Check.{check}
-use Rattle.rules.specs.Step.{setup_lines, own_refusal, finish, good_settings, good_state, joined_with, keep, key_of, lay, Fill, Nowhere, From, fill_from, room}
-use Rattle.rules.specs.Step.{Outcome, ours, outcome, refuse, refuse_first, setup_lines, step_of, up_to}
+use Rattle.rules.specs.Step.{setup_lines, own_refusal, finish, good_settings, good_state, joined_with, keep, key_of, lay, Fill, Nowhere, From, fill_from, room, Outcome, ours, outcome, refuse, refuse_first, step_of, up_to}
 use Rattle.rules.specs.Row.{Event, section, Held, fresh, datagram, handed_by}
 use Rattle.rules.specs.UnitEnd.{unit_end}
-use Rattle.rules.proofs.Tested.{elsewhere, joined}
-use Rattle.rules.proofs.Tested.{Receivable, Ready}
+use Rattle.rules.proofs.Tested.{elsewhere, joined, Receivable, Ready}
 use Rattle.rules.proofs.Sound.{none_own, own_none}
 use Rattle.rules.proofs.Runs.{EndsIn, ends_size, Next, next, Same, only, whole_ends}
-use Rattle.rules.proofs.Track.{key_flag, key_last, in_order, room_bounds, room_same, laid_length, laid_take, nowhere}
-use Rattle.rules.proofs.Track.{Gathered, Track, within, follows, filled_from, grown}
+use Rattle.rules.proofs.Track.{key_flag, key_last, in_order, room_bounds, room_same, laid_length, laid_take, nowhere, Gathered, Track, within, follows, filled_from, grown}
 use Rattle.rules.proofs.Finish.{Carries, up_to_hands, up_to_size, up_to_state, handed, held, no_datagram}
 use Rattle.rules.proofs.UnitEnd.{end_within_is}
 
@@ -83,7 +80,7 @@ module _ (c : Settings) (b : List ℕ) where
       → Due past now s o → Holds (past ++ (section s ∷ [])) (held o)
   due_holds size good (refused never_ends) = record { size = size; good = good; track = λ κ xs e some partial. never_ends κ xs e some }
   due_holds {past} {now} {s} size good (finished {f = f} {after = after} size' g whole) =
-      let end : End = unit_end (key_of s).llc_snap (joined g.sections) in
+      let end : Option ℕ = unit_end (key_of s).llc_snap (joined g.sections) in
       record {
         size = up_to_size end now after (length b) size size';
         good = good;

@@ -26,6 +26,7 @@ pub mod Send
 pub mod Sound
 pub mod Split
 pub mod Tested
+pub mod Told
 pub mod Track
 pub mod UnitEnd
 pub mod Written

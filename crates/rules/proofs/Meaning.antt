@@ -14,9 +14,8 @@ use Rattle.wire.specs.Meaning.{Row, ◌means◌}
 use Rattle.wire.proofs.Choice.{both_true, never, not_first}
 use Rattle.wire.proofs.Meaning.{Gives, gives_last, gives_row, or_else_is, or_zero, or_else, Tells, tells_both, tells_either, tells_eq, tells_le, tells_lt, tells_not, tells_outside}
 use Rattle.rules.specs.declared.Address.{Address}
-use Rattle.rules.specs.declared.Answer.TheVariants.{PassedBy, Stored}
-use Rattle.rules.specs.declared.End.{End}
-use Rattle.rules.specs.declared.End.TheVariants.{At, NoEnd}
+use Rattle.rules.specs.Answers.{PassedBy, Stored}
+use Rattle.std.specs.Prelude.{Option, Some, None}
 use Rattle.rules.specs.declared.Form.{Form}
 use Rattle.rules.specs.declared.Key.{Key}
 use Rattle.rules.specs.declared.Settings.{Settings}
@@ -194,10 +193,10 @@ module _ (s b : List ℕ) where
   unfolding keep finish up_to number_of section_number last_section_number pick both first endless
   number_kept f = go (eqb (byte_at s 6) (byte_at s 7)) (unit_end (llc_snap_flag s) (joined_with f s b))
     where
-      go : (t : Bool) (e : End) → number (pick t (up_to e b (laid f s b)) (outcome Stored (Open (section_number s + 1) (f + length (payload s)) (key_of s)) (laid f s b)))
+      go : (t : Bool) (e : Option ℕ) → number (pick t (up_to e b (laid f s b)) (outcome Stored (Open (section_number s + 1) (f + length (payload s)) (key_of s)) (laid f s b)))
           ≡ first (both t (endless e)) 25 (first (not t) 1 0)
-      go true (At n) = refl
-      go true NoEnd = refl
+      go true (Some n) = refl
+      go true None = refl
       go false e = refl
 
   unended_tells : (f : ℕ) → Tells (unended f) ((byte_at s 6 ≡ byte_at s 7) × (bit 1 (byte_at s 5) ≡ 0) × NoDatagram (take f b ++ stored s))

@@ -1,19 +1,18 @@
 -- A datagram's header is among its own bytes, so what the joined payloads say of their first part, that part says of itself.
 use Prim.Native.Nat.{ℕ, ◌+◌, ◌≤◌, ◌<◌}
 use native.Mathlib.Omega.{arith}
-use mathlib.Core.Path.{◌≡◌, ap, ap₂, sym, ◌∙◌}
+use mathlib.Core.Path.{◌≡◌, ap, sym, ◌∙◌}
 use mathlib.Core.Logic.{inl, inr}
 use mathlib.Core.List.{List, ◌++◌}
-use mathlib.Core.Bool.{Bool, false}
+use mathlib.Core.Bool.{false}
 use lib.ListN.{length, length-append, take}
 use lib.Seq.{get_or-take, length-take-le}
 use borrow.Author.Tests.{ne_eqb}
 use Rattle.wire.specs.Bytes.{bit, bits, byte_at, number_at}
 use Rattle.rules.specs.declared.Settings.{Settings}
-use Rattle.rules.specs.declared.End.TheVariants.{At}
 use Rattle.rules.specs.Demand3.{OwnLength}
 use Rattle.rules.specs.Row.{handed_by, handed_over, Held, section}
-use Rattle.rules.specs.Section.{last_section_number, llc_snap_flag, payload, section_number}
+use Rattle.rules.specs.Section.{llc_snap_flag, payload}
 use Rattle.rules.specs.Step.{finish, joined_with, keep, laid, Outcome, room}
 use Rattle.rules.specs.UnitEnd.{BeginsWith, Says, unit_end, UnitLength}
 use Rattle.rules.proofs.After.{by_step}

@@ -13,7 +13,6 @@ use Rattle.wire.specs.Meaning.{FirstThat}
 use Rattle.rules.specs.declared.Settings.{Settings}
 use Rattle.rules.specs.Meaning.{CutInto, Good, sender_rows}
 use Rattle.rules.specs.Pieces.{InPiecesOf, SmallByDefault}
-use Rattle.rules.specs.Recording.{offers}
 use Rattle.rules.specs.Send.{piece, section_at, section_count, sections, sending_length, sending_number, SendOutcome, sent_of}
 use Rattle.rules.specs.UnitEnd.{NotOneDatagram}
 use Rattle.rules.proofs.Demand2.{offers_sent}

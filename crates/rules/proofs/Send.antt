@@ -13,8 +13,8 @@ use Rattle.wire.specs.Bytes.{over}
 use Rattle.wire.specs.Choice.{pick, first_of}
 use Rattle.rules.specs.declared.Address.{Address}
 use Rattle.rules.specs.declared.Settings.{Settings}
-use Rattle.rules.specs.declared.End.TheVariants.{At}
-use Rattle.rules.specs.declared.Sending.TheVariants.{Sent, Unsent}
+use Rattle.std.specs.Prelude.{Some}
+use Rattle.rules.specs.Answers.{Sent, Unsent}
 use Rattle.rules.specs.Section.{header, section_of}
 use Rattle.rules.specs.Meaning.{CutInto, Good}
 use Rattle.rules.proofs.Tested.{joined}
@@ -34,7 +34,7 @@ pub record Accepted (c : Settings) (llc_snap : Bool) (size : ℕ) (u out : List 
   pub some : 1 ≤ size
   pub most : size ≤ 4080
   pub unit : length u ≤ 65535
-  pub ends : unit_end llc_snap u ≡ At (length u)
+  pub ends : unit_end llc_snap u ≡ Some (length u)
   pub limit : section_count size u ≤ c.limit
   pub room : length (flatten (sections c llc_snap size u)) ≤ length out
 

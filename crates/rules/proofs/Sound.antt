@@ -11,10 +11,9 @@ use Rattle.wire.specs.Choice.{both, first, first_of, without}
 use Rattle.wire.proofs.Choice.{either_false, none_first, none_parts}
 use Rattle.rules.specs.Crc.{crc32}
 use Rattle.rules.specs.Section.{address_scrambling_control, crc_field, crc_offset, current_next_indicator, last_section_number, payload, payload_scrambling_control, private_indicator, section_length, section_number, section_syntax_indicator, table_id}
-use Rattle.rules.specs.Check.{too_short, other_table, wrong_length, wrong_syntax, wrong_crc, not_current, out_of_order, address_scrambled, datagram_form}
+use Rattle.rules.specs.Check.{too_short, other_table, wrong_length, wrong_syntax, wrong_crc, not_current, out_of_order, address_scrambled, datagram_form, form_lines, order_lines, shared_refusal, shared_lines, check_lines, check}
 use Rattle.rules.specs.declared.Settings.{Settings}
 use Rattle.rules.specs.Step.{own_refusal, own_lines, over_limit, payload_scrambled}
-use Rattle.rules.specs.Check.{form_lines, order_lines, shared_refusal, shared_lines, check_lines, check}
 use Rattle.rules.specs.declared.Form.{Form}
 
 -- ---- a section of a form to which none of 12 to 18 and 24 applies

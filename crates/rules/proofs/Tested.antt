@@ -8,7 +8,7 @@ use lib.ListN.{length, get_or, take}
 use lib.Dec.{eqb}
 use Rattle.wire.specs.Choice.{pick, both}
 use Rattle.rules.specs.declared.Settings.{Settings}
-use Rattle.rules.specs.declared.End.TheVariants.{At}
+use Rattle.std.specs.Prelude.{Some}
 use Rattle.rules.specs.declared.Key.{Key}
 use Rattle.rules.specs.Check.{check}
 use Rattle.rules.specs.Section.{last_section_number, payload, payload_scrambling_control, section_number}
@@ -56,7 +56,7 @@ pub record WholeRun (c : Settings) (b : List ℕ) (xs : List (List ℕ)) : Type 
   pub whole : length xs ≡ key.last + 1
   pub within : length xs ≤ c.limit
   pub end : ℕ
-  pub ends : unit_end key.llc_snap (joined xs) ≡ At end
+  pub ends : unit_end key.llc_snap (joined xs) ≡ Some end
 
 -- the row ends in these sections, with no other event between
 pub record Ends (row : List Event) (xs : List (List ℕ)) : Type 0 where

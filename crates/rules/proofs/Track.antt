@@ -1,5 +1,5 @@
 -- A payload goes somewhere exactly where it goes on with a run that the row ends in, since the state says which run that is.
-use Prim.Native.Nat.{ℕ, ◌+◌, ◌*◌, ◌≤◌, ◌<◌}
+use Prim.Native.Nat.{ℕ, ◌+◌, ◌≤◌, ◌<◌}
 use native.Mathlib.Nat.{le_refl}
 use native.Mathlib.Omega.{arith}
 use mathlib.Core.Path.{◌≡◌, refl, ap, sym, ◌∙◌}
@@ -8,7 +8,7 @@ use mathlib.Core.List.{List, [], ◌∷◌, ◌++◌}
 use lib.ListN.{length, get_or, take}
 use lib.Seq.{length-paste, take-paste, take-length}
 use lib.Dec.{eqb}
-use borrow.Author.Tests.{eqb-true, eq-eqb, ne_eqb, le-leb, leb-true}
+use borrow.Author.Tests.{eqb-true, eq-eqb, ne_eqb}
 use Rattle.wire.specs.Choice.{pick, both}
 use Rattle.rules.specs.declared.Settings.{Settings}
 use Rattle.rules.specs.declared.Key.{Key}
@@ -16,8 +16,7 @@ use Rattle.rules.specs.declared.State.{State}
 use Rattle.rules.specs.declared.State.TheVariants.{Idle, Open}
 use Rattle.rules.specs.Check.{check}
 use Rattle.rules.specs.Section.{section_number, last_section_number, llc_snap_flag, payload}
-use Rattle.rules.specs.Step.{continues, key_of, laid, onward}
-use Rattle.rules.specs.Step.{Nowhere, From, fill_from, room}
+use Rattle.rules.specs.Step.{continues, key_of, laid, onward, Nowhere, From, fill_from, room}
 use Rattle.rules.specs.Row.{Event, section}
 use Rattle.rules.proofs.Tested.{joined, Receivable, InRun}
 use Rattle.rules.proofs.Lists.{length_more}

@@ -1,5 +1,5 @@
 -- A header says one length at most, so the rule's tests find an end exactly where the joined payloads begin with a datagram.
-use Prim.Native.Nat.{ℕ, ◌+◌, ◌≤◌, ◌<◌}
+use Prim.Native.Nat.{ℕ, ◌+◌, ◌≤◌}
 use native.Mathlib.Omega.{arith}
 use mathlib.Core.Path.{◌≡◌, refl, ap, subst, sym, ◌∙◌}
 use mathlib.Core.Logic.{◌↔◌, inl, inr, ⊎_elim}
@@ -10,22 +10,21 @@ use lib.Dec.{eqb, leb}
 use borrow.Author.Tests.{eq-eqb, eqb-false, eqb-true, leb-false, leb-true}
 use Rattle.wire.specs.Bytes.{bits, byte_at, number_at}
 use Rattle.wire.specs.Choice.{both, pick}
-use Rattle.wire.proofs.Choice.{both_true, never}
+use Rattle.wire.proofs.Choice.{never}
 use Rattle.wire.proofs.Meaning.{Tells}
-use Rattle.rules.specs.declared.End.{End}
-use Rattle.rules.specs.declared.End.TheVariants.{At, NoEnd}
+use Rattle.std.specs.Prelude.{Option, Some, None}
 use Rattle.rules.specs.UnitEnd.{BeginsWith, datagram_end, ends_at, end_within, NoDatagram, NotOneDatagram, payload_length, Says, total_length, unit_end, UnitLength, version}
 
 -- ---- ends
 -- the joined payloads are no unit
-unfoldable pub endless : End → Bool
-endless (At n) = false
-endless NoEnd = true
+unfoldable pub endless : Option ℕ → Bool
+endless (Some n) = false
+endless None = true
 
-pub same_end : {m n : ℕ} → At m ≡ At n → m ≡ n
+pub same_end : {m n : ℕ} → Some m ≡ Some n → m ≡ n
 same_end p = cc
 
-pub no_end : {n : ℕ} → NoEnd ≡ At n → ⊥
+pub no_end : {n : ℕ} → None ≡ Some n → ⊥
 no_end p = let z : ◌≡◌ {A = ℕ} 0 1 = cc in omega arith
 
 -- ---- what a header says
@@ -57,15 +56,15 @@ module _ (p : List ℕ) where
       (⊎_elim (λ l. omega (arith, l, same.0, same.1, w.least)) (λ l. omega (arith, l, same.1, w.most))) cases
 
   -- ---- what the rule finds
-  pub data Found : End → Type 0 where
-    begins : {n : ℕ} → BeginsWith p n → Found (At n)
-    none : NoDatagram p → Found NoEnd
+  pub data Found : Option ℕ → Type 0 where
+    begins : {n : ℕ} → BeginsWith p n → Found (Some n)
+    none : NoDatagram p → Found None
 
   within : (h n : ℕ) → Says p h n → Found (end_within (length p) h n)
   unfolding end_within pick both
   within h n says = go (leb h n) refl (leb n (length p)) refl
     where
-      go : (t : Bool) → leb h n ≡ t → (u : Bool) → leb n (length p) ≡ u → Found (pick (both t u) (At n) NoEnd)
+      go : (t : Bool) → leb h n ≡ t → (u : Bool) → leb n (length p) ≡ u → Found (pick (both t u) (Some n) None)
       go true e true l = begins (record { header = h; says = says; least = leb-true _ _ e; most = leb-true _ _ l })
       go true e false l = none (inr (inr (h, n, says, inr (inr (leb-false _ _ l)))))
       go false e u l = none (inr (inr (h, n, says, inr (inl (leb-false _ _ e)))))
@@ -75,22 +74,22 @@ module _ (p : List ℕ) where
   found = go (eqb (bits 7 4 (byte_at p 0)) 4) refl (eqb (bits 7 4 (byte_at p 0)) 6) refl
     where
       go : (t : Bool) → eqb (bits 7 4 (byte_at p 0)) 4 ≡ t → (u : Bool) → eqb (bits 7 4 (byte_at p 0)) 6 ≡ u
-          → Found (pick t (end_within (length p) 20 (number_at 2 p 2)) (pick u (end_within (length p) 40 (40 + number_at 2 p 4)) NoEnd))
+          → Found (pick t (end_within (length p) 20 (number_at 2 p 2)) (pick u (end_within (length p) 40 (40 + number_at 2 p 4)) None))
       go true e u f = within 20 (number_at 2 p 2) (inl (eqb-true _ _ e, refl, refl))
       go false e true f = within 40 (40 + number_at 2 p 4) (inr (eqb-true _ _ f, refl, refl))
       go false e false f = none (inr (inl (eqb-false _ _ e, eqb-false _ _ f)))
 
-  at_begins : {e : End} (n : ℕ) → Found e → (e ≡ At n) ↔ BeginsWith p n
+  at_begins : {e : Option ℕ} (n : ℕ) → Found e → (e ≡ Some n) ↔ BeginsWith p n
   at_begins n (begins {n = m} w) =
-      (λ q. subst (BeginsWith p) (same_end q) w, λ v. ap At (begins_one m n w v))
+      (λ q. subst (BeginsWith p) (same_end q) w, λ v. ap Some (begins_one m n w v))
   at_begins n (none w) = (λ q. absurd (no_end q), λ v. absurd (begins_not n v w))
 
-  endless_tells : {e : End} → Found e → Tells (endless e) (NoDatagram p)
+  endless_tells : {e : Option ℕ} → Found e → Tells (endless e) (NoDatagram p)
   unfolding endless
   endless_tells (begins {n = n} w) = (λ q. absurd (never q), λ v. absurd (begins_not n w v))
   endless_tells (none w) = (λ _. w, λ _. refl)
 
-  not_tells : {e : End} → Found e → Tells (not (ends_at (length p) e)) (NotOneDatagram p)
+  not_tells : {e : Option ℕ} → Found e → Tells (not (ends_at (length p) e)) (NotOneDatagram p)
   unfolding ends_at
   not_tells (begins {n = n} w) = go (eqb n (length p)) refl
     where
@@ -106,13 +105,13 @@ module _ (p : List ℕ) where
   not_tells (none w) = (λ _. inl w, λ _. refl)
 
 -- ---- with the flag, or without it
-pub unit_ends : (llc_snap : Bool) (p : List ℕ) (n : ℕ) → (unit_end llc_snap p ≡ At n) ↔ UnitLength llc_snap p n
+pub unit_ends : (llc_snap : Bool) (p : List ℕ) (n : ℕ) → (unit_end llc_snap p ≡ Some n) ↔ UnitLength llc_snap p n
 unfolding unit_end UnitLength pick
-unit_ends true p n = (λ q. sym (same_end q), λ e. ap At (sym e))
+unit_ends true p n = (λ q. sym (same_end q), λ e. ap Some (sym e))
 unit_ends false p n = at_begins p n (found p)
 
 -- a unit is no longer than the joined payloads
-pub end_within_is : (llc_snap : Bool) (p : List ℕ) (n : ℕ) → unit_end llc_snap p ≡ At n → n ≤ length p
+pub end_within_is : (llc_snap : Bool) (p : List ℕ) (n : ℕ) → unit_end llc_snap p ≡ Some n → n ≤ length p
 unfolding UnitLength
 end_within_is true p n q = omega (arith, (unit_ends true p n).0 q)
 end_within_is false p n q = ((unit_ends false p n).0 q).most
@@ -130,7 +129,7 @@ unit_not_one true p =
 unit_not_one false p = let t = not_tells p (found p) in (λ q. (refl, t.0 q), λ w. t.1 w.1)
 
 -- where 54 does not apply, the unit ends where its bytes do
-pub ends_at_is : (n : ℕ) (e : End) → ends_at n e ≡ true → e ≡ At n
+pub ends_at_is : (n : ℕ) (e : Option ℕ) → ends_at n e ≡ true → e ≡ Some n
 unfolding ends_at
-ends_at_is n (At m) q = ap At (eqb-true m n q)
-ends_at_is n NoEnd q = absurd (never q)
+ends_at_is n (Some m) q = ap Some (eqb-true m n q)
+ends_at_is n None q = absurd (never q)

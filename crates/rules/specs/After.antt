@@ -1,9 +1,8 @@
 -- What goes with each number: document 01, 'The receiver', the column 'state after', and what is stored and handed back; 'The sender';
 -- document 02, request 3. Theorems, shown in proofs/After.antt, proofs/Made.antt and proofs/BufferRead.antt.
-use Rattle.std.specs.Prelude.{ℕ, ◌+◌, ◌-◌, ◌≡◌, ◌≢◌, List, ◌++◌, Bool, length, take, drop, eqb}
+use Rattle.std.specs.Prelude.{ℕ, ◌+◌, ◌≡◌, ◌≢◌, List, ◌++◌, Bool, length, take, drop, eqb}
 use Rattle.wire.specs.Bytes.{bit, byte_at}
-use Rattle.rules.specs.declared.Answer.{Answer}
-use Rattle.rules.specs.declared.Answer.TheVariants.{Delivered, PassedBy, Refused, Stored}
+use Rattle.rules.specs.Answers.{Answer, Delivered, PassedBy, Refused, Stored}
 use Rattle.rules.specs.declared.Settings.{Settings}
 use Rattle.rules.specs.declared.State.{State}
 use Rattle.rules.specs.declared.State.TheVariants.{Idle, Open}

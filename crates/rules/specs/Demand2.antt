@@ -3,9 +3,7 @@
 use Rattle.std.specs.Prelude.{ℕ, ◌+◌, ◌≤◌, ◌<◌, ◌≡◌, Bool, length, get_or, take}
 use mathlib.Core.List.{List, [], ◌∷◌, ◌++◌, flatten, map}
 use Rattle.rules.specs.declared.Settings.{Settings}
-use Rattle.rules.specs.declared.Sending.TheVariants.{Sent}
-use Rattle.rules.specs.declared.Answer.{Answer}
-use Rattle.rules.specs.declared.Answer.TheVariants.{Delivered, Stored}
+use Rattle.rules.specs.Answers.{Sent, Answer, Delivered, Stored}
 use Rattle.rules.specs.Recording.{offers}
 use Rattle.rules.specs.Demand3.{joined, Receivable}
 use Rattle.rules.specs.Meaning.{CutInto}

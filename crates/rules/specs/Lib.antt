@@ -1,5 +1,6 @@
 pub mod Address
 pub mod After
+pub mod Answers
 pub mod Check
 pub mod Crc
 pub mod Recording
@@ -12,4 +13,5 @@ pub mod Section
 pub mod Send
 pub mod Sound
 pub mod Step
+pub mod Told
 pub mod UnitEnd

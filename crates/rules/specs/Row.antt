@@ -3,8 +3,7 @@ use Rattle.std.specs.Prelude.{ℕ, List, [], ◌∷◌, take}
 use Rattle.rules.specs.declared.Settings.{Settings}
 use Rattle.rules.specs.declared.State.{State}
 use Rattle.rules.specs.declared.State.TheVariants.{Idle}
-use Rattle.rules.specs.declared.Answer.{Answer}
-use Rattle.rules.specs.declared.Answer.TheVariants.{Delivered, Stored, PassedBy, Refused}
+use Rattle.rules.specs.Answers.{Answer, Delivered, Stored, PassedBy, Refused}
 use Rattle.rules.specs.Step.{gap_of, Outcome, step_of}
 
 -- ---- a row, given to the receiver

@@ -1,12 +1,13 @@
 -- What the sender writes and refuses: document 01, 'The sender'; document 02, requests 3 and 7.
-use Rattle.std.specs.Prelude.{ℕ, zero, suc, ◌+◌, ◌*◌, ◌-◌, ◌/◌, max, ◌≡◌, Bool, not, length, take, drop, eqb, leb, ltb}
+use Rattle.std.specs.Prelude.{ℕ, zero, suc, ◌+◌, ◌*◌, ◌-◌, ◌/◌, max, ◌≡◌, Bool, not, length, take, drop, eqb, leb, ltb, Result}
 use mathlib.Core.List.{List, [], ◌∷◌, ◌++◌, flatten}
 use Rattle.wire.specs.Bytes.{over}
 use Rattle.wire.specs.Choice.{pick, both, Line, line, first_of}
 use Rattle.rules.specs.declared.Settings.{Settings}
-use Rattle.rules.specs.declared.Sending.{Sending}
-use Rattle.rules.specs.declared.Sending.TheVariants.{Sent, Unsent}
+use Rattle.rules.specs.declared.Refusal.{Refusal}
+use Rattle.rules.specs.Answers.{Sending, Sent, Unsent}
 use Rattle.rules.specs.Section.{section_of}
+use Rattle.rules.specs.Told.{sending_told}
 use Rattle.rules.specs.Step.{good_settings}
 use Rattle.rules.specs.UnitEnd.{ends_at, unit_end}
 
@@ -77,7 +78,7 @@ sent_of c llc_snap n u out =
 abbrev pub default_piece : ℕ
 default_piece = 1008
 
--- an answer and an output are those of an outcome
-pub record Sends (o : SendOutcome) (r : Sending) (out : List ℕ) : Type 0 where
-  pub sending : r ≡ o.sending
+-- an answer of the code's and an output are those of an outcome
+pub record Sends (o : SendOutcome) (r : Result ℕ Refusal) (out : List ℕ) : Type 0 where
+  pub sending : sending_told r ≡ o.sending
   pub output : out ≡ o.output

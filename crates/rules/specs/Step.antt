@@ -1,17 +1,15 @@
 -- What one section does to the receiver: document 01, 'The receiver'; document 02, requests 3 and 5. The answer, the state after and the
 -- buffer after.
-use Rattle.std.specs.Prelude.{ℕ, ◌+◌, ◌*◌, min, ◌≡◌, List, [], ◌∷◌, ◌++◌, Bool, true, not, length, take, ltb, leb, eqb}
+use Rattle.std.specs.Prelude.{ℕ, ◌+◌, ◌*◌, min, ◌≡◌, List, [], ◌∷◌, ◌++◌, Bool, true, not, length, take, ltb, leb, eqb, Option, Some, None}
 use Rattle.std.specs.Bool.{beq}
 use Rattle.std.proofs.Math.Seq.{paste}
 use Rattle.wire.specs.Choice.{pick, both, Line, line, first_of}
 use Rattle.rules.specs.declared.Settings.{Settings}
 use Rattle.rules.specs.declared.State.{State}
 use Rattle.rules.specs.declared.State.TheVariants.{Idle, Open}
-use Rattle.rules.specs.declared.Answer.{Answer}
-use Rattle.rules.specs.declared.Answer.TheVariants.{Delivered, Stored, PassedBy, Refused}
-use Rattle.rules.specs.declared.End.{End}
-use Rattle.rules.specs.declared.End.TheVariants.{At, NoEnd}
-use Rattle.rules.specs.declared.Step.{Step}
+use Rattle.rules.specs.Answers.{Answer, Delivered, Stored, PassedBy, Refused, Step}
+use Rattle.rules.specs.declared.Step.{Step as CodeStep}
+use Rattle.rules.specs.Told.{step_told}
 use Rattle.rules.specs.declared.Key.{Key}
 use Rattle.rules.specs.Address.{same_address}
 use Rattle.rules.specs.Check.{check_lines}
@@ -128,9 +126,9 @@ unfoldable pub joined_with : ℕ → List ℕ → List ℕ → List ℕ
 joined_with f s b = take f b ++ payload s
 
 -- the unit is delivered up to its end, and the buffer is as `after` has it; 25: there is no end, and nothing is stored
-unfoldable pub up_to : End → List ℕ → List ℕ → Outcome
-up_to (At n) b after = outcome (Delivered n) Idle after
-up_to NoEnd b after = refuse 25 b
+unfoldable pub up_to : Option ℕ → List ℕ → List ℕ → Outcome
+up_to (Some n) b after = outcome (Delivered n) Idle after
+up_to None b after = refuse 25 b
 
 -- the payload is the unit's last part, and what is after the unit's end stays in the buffer
 unfoldable pub finish : ℕ → List ℕ → List ℕ → Outcome
@@ -158,7 +156,7 @@ step_of c σ s b =
 unfoldable pub gap_of : State → State
 gap_of σ = Idle
 
--- an answer, a state and a buffer are those of an outcome
-pub record Does (o : Outcome) (r : Step) (b : List ℕ) : Type 0 where
-  pub step : r ≡ o.step
+-- an answer, a state and a buffer of the code's are those of an outcome
+pub record Does (o : Outcome) (r : CodeStep) (b : List ℕ) : Type 0 where
+  pub step : step_told r ≡ o.step
   pub buffer : b ≡ o.buffer

@@ -1,10 +1,8 @@
 -- Where a unit ends: document 02, request 3. Without LLC/SNAP the joined payloads begin with an IP datagram, and the unit ends where its
 -- header says; what is after it is stuffing. With LLC/SNAP all of them are the unit.
-use Rattle.std.specs.Prelude.{ℕ, ◌+◌, ◌≤◌, ◌<◌, ◌≡◌, ◌≢◌, ◌⊎◌, List, Bool, true, false, length, eqb, leb}
+use Rattle.std.specs.Prelude.{ℕ, ◌+◌, ◌≤◌, ◌<◌, ◌≡◌, ◌≢◌, ◌⊎◌, List, Bool, true, false, length, eqb, leb, Option, Some, None}
 use Rattle.wire.specs.Bytes.{bits, byte_at, number_at}
 use Rattle.wire.specs.Choice.{both, pick}
-use Rattle.rules.specs.declared.End.{End}
-use Rattle.rules.specs.declared.End.TheVariants.{At, NoEnd}
 
 -- ---- in words
 -- the IP header that p begins with has `header` bytes at least and says that its datagram has n: version 4 by the total length (RFC 791,
@@ -48,19 +46,19 @@ unfoldable pub payload_length : List ℕ → ℕ
 payload_length p = number_at 2 p 4
 
 -- a datagram of n bytes ends after them if it has its header and all of them are there
-unfoldable pub end_within : ℕ → ℕ → ℕ → End
-end_within there header n = pick (both (leb header n) (leb n there)) (At n) NoEnd
+unfoldable pub end_within : ℕ → ℕ → ℕ → Option ℕ
+end_within there header n = pick (both (leb header n) (leb n there)) (Some n) None
 
-unfoldable pub datagram_end : List ℕ → End
+unfoldable pub datagram_end : List ℕ → Option ℕ
 datagram_end p =
     pick (eqb (version p) 4) (end_within (length p) 20 (total_length p))
-    (pick (eqb (version p) 6) (end_within (length p) 40 (40 + payload_length p)) NoEnd)
+    (pick (eqb (version p) 6) (end_within (length p) 40 (40 + payload_length p)) None)
 
 -- with the LLC_SNAP_flag, or without it
-unfoldable pub unit_end : Bool → List ℕ → End
-unit_end llc_snap p = pick llc_snap (At (length p)) (datagram_end p)
+unfoldable pub unit_end : Bool → List ℕ → Option ℕ
+unit_end llc_snap p = pick llc_snap (Some (length p)) (datagram_end p)
 
 -- the end is at n
-unfoldable pub ends_at : ℕ → End → Bool
-ends_at n (At m) = eqb m n
-ends_at n NoEnd = false
+unfoldable pub ends_at : ℕ → Option ℕ → Bool
+ends_at n (Some m) = eqb m n
+ends_at n None = false
