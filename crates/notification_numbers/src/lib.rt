@@ -14,7 +14,7 @@ pub fn finding_number(finding: Result<Option<usize>, Refusal>) -> u8
     match finding {
         Ok(Some(_)) => 3,
         Ok(None) => 4,
-        Err(refusal) => refusal.number(),
+        Err(refusal) => u8::from(refusal),
     }
 }
 
