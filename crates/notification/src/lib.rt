@@ -71,6 +71,7 @@ fn loops_refusal(s: &[u8]) -> Result<(), Refusal>
 }
 
 // The first of 12 to 18 and 30 to 33 that applies.
+#[tactic(auto, unfolding(rules::specs::Told::refusal_number, rules::specs::Check::shared_refusal, notification_rules::specs::Finding::refusal), using(wire::proofs::Choice::first_of_here, wire::proofs::Choice::first_of_past, rules::proofs::Check::shared_numbered, notification_rules::proofs::Sound::platform_numbered, rules::proofs::Told::numbered))]
 fn refusal(s: &[u8]) -> Result<(), Refusal>
     ensures { refusal_number result ≡ refusal s.now }
 {
