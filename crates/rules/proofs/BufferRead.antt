@@ -1,15 +1,8 @@
 -- Of the buffer only the room and, at number L, the end of the unit are asked; all else of an answer is by the section and the state.
-use Prim.Native.Nat.{ℕ}
-use native.Mathlib.Omega.{arith}
-use mathlib.Core.Path.{◌≡◌, refl, ap}
-use mathlib.Core.List.{List, ◌++◌}
-use mathlib.Core.Bool.{Bool, true, false}
-use lib.ListN.{length-append, length-take, take}
-use lib.Dec.{eqb}
-use borrow.Author.Tests.{eqb-false, eqb-true}
+use borrow.Author.Tests.{eqb-false}
+use Rattle.std.proofs.Common.{ℕ, arith, ◌≡◌, refl, ap, List, ◌++◌, Bool, true, false, length-append, length-take, take, eqb, eqb-true, Option, Some, None}
 use Rattle.wire.specs.Bytes.{bit, byte_at}
 use Rattle.wire.specs.Choice.{first_of, Line, pick}
-use Rattle.std.specs.Prelude.{Option, Some, None}
 use Rattle.rules.specs.declared.Key.{Key}
 use Rattle.rules.specs.declared.State.{State}
 use Rattle.rules.specs.declared.State.TheVariants.{Idle, Open}

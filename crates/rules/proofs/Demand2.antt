@@ -1,20 +1,13 @@
 -- The sender's sections are a whole run, offered one by one; the row theory says what is due at each of them.
-use Prim.Native.Nat.{ℕ, zero, suc, ◌+◌, ◌-◌, ◌≤◌, ◌<◌}
-use native.Mathlib.Omega.{arith}
-use native.Mathlib.Numerals.{add-one}
-use mathlib.Core.Path.{◌≡◌, refl, ap, ap₂, sym, ◌∙◌}
-use mathlib.Core.Bool.{Bool, false}
-use mathlib.Core.List.{List, [], ◌∷◌, ◌++◌, flatten, map}
-use lib.ListN.{length, take, length-take}
+use mathlib.Core.List.{flatten}
+use Rattle.std.proofs.Common.{ℕ, zero, suc, ◌+◌, ◌-◌, ◌≤◌, ◌<◌, arith, add-one, ◌≡◌, refl, ap, ap₂, sym, ◌∙◌, Bool, false, List, [], ◌∷◌, ◌++◌, map, length, take, length-take, Some}
 use Rattle.wire.specs.Bytes.{number_at}
 use Rattle.wire.specs.Choice.{both}
 use Rattle.rules.specs.declared.Settings.{Settings}
-use Rattle.std.specs.Prelude.{Some}
 use Rattle.rules.specs.declared.Key.{Key}
 use Rattle.rules.specs.Answers.{Delivered, Stored, Sent}
 use Rattle.rules.specs.Recording.{offers}
 use Rattle.rules.specs.Demand2.{answer_at, Arrives, RoundTrip}
-use Rattle.rules.specs.Demand3 as InWords
 use Rattle.rules.specs.Sound.{table3, Values}
 use Rattle.rules.specs.Row.{after, Event, fresh, Held, next, section}
 use Rattle.rules.proofs.Compared.{same_self}
@@ -32,6 +25,7 @@ use Rattle.rules.proofs.Lists.{map_more}
 use Rattle.rules.proofs.Runs.{EndsIn, only}
 use Rattle.rules.proofs.Sections.{sections_are, sections_sent}
 use Rattle.rules.proofs.Send.{Accepted, count_some, SentAll, sent_all, sent_all_bytes, joined_to, piece_small, section_size, section_written, sections_at, sections_joined, sections_length, sections_take}
+use Rattle.rules.specs.Demand3 as InWords
 
 -- ---- each section is receivable
 after_more : (c : Settings) (h : Held) (r : List Event) (e : Event) → after c h (r ++ (e ∷ [])) ≡ next c (after c h r) e

@@ -1,13 +1,8 @@
 -- Each of the receiver's tests holds exactly where its words do, so the row theorem says demand 3 in these words.
-use Prim.Native.Nat.{ℕ, suc, zero, ◌<◌}
-use native.Mathlib.Omega.{arith}
-use mathlib.Core.Path.{◌≡◌, refl, ap, sym, ◌∙◌}
-use mathlib.Core.Logic.{◌↔◌, ◌⊎◌, inl, inr}
-use mathlib.Core.Bool.{Bool, true, false}
-use mathlib.Core.List.{List, [], ◌∷◌, ◌++◌, map}
-use lib.ListN.{drop, get_or, length, length-append, length-map, get_or-map, take}
-use lib.Seq.{get_or-append_seam, length-take-le, split_at}
-use borrow.Author.Tests.{eqb-true, not-true}
+use lib.ListN.{length-map, get_or-map}
+use lib.Seq.{get_or-append_seam, split_at}
+use borrow.Author.Tests.{not-true}
+use Rattle.std.proofs.Common.{ℕ, suc, zero, ◌<◌, arith, ◌≡◌, refl, ap, sym, ◌∙◌, ◌↔◌, ◌⊎◌, inl, inr, Bool, true, false, List, [], ◌∷◌, ◌++◌, map, drop, get_or, length, length-append, take, length-take-le, eqb-true}
 use Rattle.wire.specs.Bytes.{Bytes}
 use Rattle.wire.specs.Choice.{both, first, first_of, pick}
 use Rattle.wire.proofs.Choice.{both_true, never}
@@ -27,12 +22,12 @@ use Rattle.rules.proofs.Good.{good_is}
 use Rattle.rules.proofs.Read.{read, read_is, read_limits}
 use Rattle.rules.proofs.Written.{carried, clear_back, flagged_back, last_back, number_back, address_back, written_sound}
 use Rattle.rules.proofs.Row.{row_theorem}
-use Rattle.rules.proofs.Runs as runs
-use Rattle.rules.proofs.Tested as tested
 use Rattle.rules.proofs.Tested.{elsewhere, strike}
 use Rattle.rules.proofs.Track.{room_bounds}
 use Rattle.rules.proofs.OwnLength.{own_length}
 use Rattle.rules.proofs.UnitEnd.{unit_ends}
+use Rattle.rules.proofs.Runs as runs
+use Rattle.rules.proofs.Tested as tested
 
 -- ---- the tests, in words
 own_read : (c : Settings) (s : List ℕ) → (ours c s ≡ true) ↔ Own c (read s).address

@@ -1,12 +1,5 @@
 -- Where a unit is finished no run is left open, and exactly its bytes up to its end are handed over, as `up_to` says case by case.
-use Prim.Native.Nat.{ℕ, ◌≤◌}
-use native.Mathlib.Omega.{arith}
-use mathlib.Core.Path.{◌≡◌, ap, refl, sym, ◌∙◌}
-use mathlib.Core.Logic.{◌↔◌}
-use mathlib.Core.List.{List}
-use lib.ListN.{length, take}
-use lib.Seq.{length-take-le, take-take}
-use Rattle.std.specs.Prelude.{Option, Some, None}
+use Rattle.std.proofs.Common.{ℕ, ◌≤◌, arith, ◌≡◌, ap, refl, sym, ◌∙◌, ◌↔◌, List, length, take, length-take-le, take-take, Option, Some, None}
 use Rattle.rules.specs.declared.State.TheVariants.{Idle}
 use Rattle.rules.specs.Step.{Outcome, up_to}
 use Rattle.rules.specs.Row.{Held, Handed, datagram, handed_by, nothing}

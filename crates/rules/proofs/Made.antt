@@ -1,13 +1,7 @@
 -- The receiver makes good states only: what it passes by leaves a state that was tested, and of what it stores each number and the address
 -- were tested.
-use Prim.Native.Nat.{ℕ, ◌+◌, ◌*◌, ◌≤◌}
-use native.Mathlib.Omega.{arith}
-use mathlib.Core.Path.{◌≡◌, refl}
-use mathlib.Core.Bool.{Bool, true, false}
-use mathlib.Core.List.{List}
-use lib.ListN.{length}
-use lib.Dec.{eqb}
-use borrow.Author.Tests.{eqb-false, eqb-true, leb-true, not-false}
+use borrow.Author.Tests.{eqb-false, not-false}
+use Rattle.std.proofs.Common.{ℕ, ◌+◌, ◌*◌, ◌≤◌, arith, ◌≡◌, refl, Bool, true, false, List, length, eqb, eqb-true, leb-true}
 use Rattle.wire.specs.Choice.{first_of, pick}
 use Rattle.wire.proofs.Choice.{both_true, none_first}
 use Rattle.rules.specs.declared.Key.{Key}

@@ -1,13 +1,8 @@
 -- Each line of a table tests what its row means, so the first line that applies has the number of the first row that does.
-use Prim.Native.Nat.{ℕ, zero, suc, ◌+◌, ◌*◌, ◌-◌, ◌≤◌, ◌<◌, min}
-use native.Mathlib.Omega.{arith}
-use mathlib.Core.Path.{◌≡◌, refl, sym, ap, subst, ◌∙◌}
-use mathlib.Core.Logic.{◌↔◌, ◌≢◌, ◌⊎◌, inl, inr, ⊎_elim}
-use mathlib.Core.List.{List, [], ◌∷◌, ◌++◌, flatten}
-use mathlib.Core.Bool.{Bool, true, false, not, beq}
-use lib.ListN.{length, take}
-use lib.Dec.{eqb, leb, ltb}
-use borrow.Author.Tests.{eqb-false, eqb-true, leb-false, leb-true, lt-leb, ltb-false, ne_eqb, not-false, not-true}
+use mathlib.Core.List.{flatten}
+use mathlib.Core.Bool.{beq}
+use borrow.Author.Tests.{eqb-false, lt-leb, not-false, not-true}
+use Rattle.std.proofs.Common.{ℕ, zero, suc, ◌+◌, ◌*◌, ◌-◌, ◌≤◌, ◌<◌, min, arith, ◌≡◌, refl, sym, ap, subst, ◌∙◌, ◌↔◌, ◌≢◌, ◌⊎◌, inl, inr, ⊎_elim, List, [], ◌∷◌, ◌++◌, Bool, true, false, not, length, take, eqb, leb, ltb, eqb-true, leb-false, leb-true, ltb-false, ne_eqb, Option, Some, None}
 use Rattle.wire.specs.Bytes.{bit, bits, byte_at, number_at}
 use Rattle.wire.specs.Choice.{pick, both, Line, first, first_of, without}
 use Rattle.wire.specs.Meaning.{Row, ◌means◌}
@@ -15,7 +10,6 @@ use Rattle.wire.proofs.Choice.{both_true, never, not_first}
 use Rattle.wire.proofs.Meaning.{Gives, gives_last, gives_row, or_else_is, or_zero, or_else, Tells, tells_both, tells_either, tells_eq, tells_le, tells_lt, tells_not, tells_outside}
 use Rattle.rules.specs.declared.Address.{Address}
 use Rattle.rules.specs.Answers.{PassedBy, Stored}
-use Rattle.std.specs.Prelude.{Option, Some, None}
 use Rattle.rules.specs.declared.Form.{Form}
 use Rattle.rules.specs.declared.Key.{Key}
 use Rattle.rules.specs.declared.Settings.{Settings}

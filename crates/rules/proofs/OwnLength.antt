@@ -1,13 +1,5 @@
 -- A datagram's header is among its own bytes, so what the joined payloads say of their first part, that part says of itself.
-use Prim.Native.Nat.{ℕ, ◌+◌, ◌≤◌, ◌<◌}
-use native.Mathlib.Omega.{arith}
-use mathlib.Core.Path.{◌≡◌, ap, sym, ◌∙◌}
-use mathlib.Core.Logic.{inl, inr}
-use mathlib.Core.List.{List, ◌++◌}
-use mathlib.Core.Bool.{false}
-use lib.ListN.{length, length-append, take}
-use lib.Seq.{get_or-take, length-take-le}
-use borrow.Author.Tests.{ne_eqb}
+use Rattle.std.proofs.Common.{ℕ, ◌+◌, ◌≤◌, ◌<◌, arith, ◌≡◌, ap, sym, ◌∙◌, inl, inr, List, ◌++◌, false, length, length-append, take, get_or-take, length-take-le, ne_eqb}
 use Rattle.wire.specs.Bytes.{bit, bits, byte_at, number_at}
 use Rattle.rules.specs.declared.Settings.{Settings}
 use Rattle.rules.specs.Demand3.{OwnLength}

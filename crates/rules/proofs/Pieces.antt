@@ -1,14 +1,7 @@
 -- As many pieces as the section limit hold the unit exactly where it is not longer than they are, and a section is its piece and 16 bytes more.
-use Prim.Native.Nat.{ℕ, ◌+◌, ◌*◌, ◌-◌, ◌≤◌, ◌<◌}
-use native.Mathlib.Nat.{mul_comm, mul-le-mul_right}
 use native.Mathlib.Decide.{dec_le, dec_lt}
-use native.Mathlib.Omega.{arith}
-use mathlib.Core.Path.{◌≡◌, refl, ap, sym, ◌∙◌}
-use mathlib.Core.Logic.{inl, inr, ⊎_elim}
-use mathlib.Core.List.{List, [], ◌∷◌, ◌++◌}
-use mathlib.Core.Bool.{Bool, false}
-use lib.ListN.{drop, get_or, length, length-append, take}
 use lib.Seq.{get_or-append_seam}
+use Rattle.std.proofs.Common.{ℕ, ◌+◌, ◌*◌, ◌-◌, ◌≤◌, ◌<◌, mul_comm, mul-le-mul_right, arith, ◌≡◌, refl, ap, sym, ◌∙◌, inl, inr, ⊎_elim, List, [], ◌∷◌, ◌++◌, Bool, false, drop, get_or, length, length-append, take}
 use Rattle.wire.specs.Meaning.{FirstThat}
 use Rattle.rules.specs.declared.Settings.{Settings}
 use Rattle.rules.specs.Meaning.{CutInto, Good, sender_rows}

@@ -1,13 +1,9 @@
 -- Each section that a sender writes is what table 3 writes for its piece of the unit, with ones in the reserved bits.
-use Prim.Native.Nat.{ℕ, zero, suc, ◌+◌, ◌*◌, ◌-◌, ◌≤◌, ◌<◌}
 use native.Mathlib.Decide.{dec_lt}
-use native.Mathlib.Nat.{suc-mul, zero-mul}
-use native.Mathlib.Omega.{arith}
-use mathlib.Core.Path.{◌≡◌, refl, ap, sym, ◌∙◌}
-use mathlib.Core.Bool.{Bool}
-use mathlib.Core.List.{List, [], ◌∷◌, ◌++◌, append_assoc, append-nil, flatten, map}
-use lib.ListN.{get_or, length, length-append, length-drop, length-take, get_or-append, take}
+use mathlib.Core.List.{flatten}
+use lib.ListN.{get_or-append}
 use lib.Seq.{get_or-append_seam, get_or_at}
+use Rattle.std.proofs.Common.{ℕ, zero, suc, ◌+◌, ◌*◌, ◌-◌, ◌≤◌, ◌<◌, suc-mul, zero-mul, arith, ◌≡◌, refl, ap, sym, ◌∙◌, Bool, List, [], ◌∷◌, ◌++◌, append_assoc, append-nil, map, get_or, length, length-append, length-drop, length-take, take}
 use Rattle.rules.specs.declared.Settings.{Settings}
 use Rattle.rules.specs.Demand2.{Sections, SectionSent}
 use Rattle.rules.specs.Demand3.{joined}

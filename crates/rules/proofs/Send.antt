@@ -1,19 +1,14 @@
 -- Pieces of n bytes are cut off the front until nothing is left, so the first k of them are the unit's first k * n bytes.
-use Prim.Native.Nat.{ℕ, zero, suc, ◌+◌, ◌*◌, ◌-◌, ◌/◌, ◌≤◌, ◌<◌, max}
-use native.Mathlib.Nat.{div-mul-le_self, le-max_right, le_refl, lt-div-mul-add, mul-le-mul_left, mul-le-mul_right, suc-mul, zero-mul}
+use native.Mathlib.Nat.{le-max_right, lt-div-mul-add}
 use native.Mathlib.Decide.{dec_le, dec_lt, ℕ_discrete}
-use native.Mathlib.Omega.{arith}
-use mathlib.Core.Path.{◌≡◌, refl, ap, sym, ◌∙◌}
-use mathlib.Core.Bool.{Bool}
-use mathlib.Core.List.{List, [], ◌∷◌, ◌++◌, flatten, append_assoc, append-nil}
-use lib.ListN.{length, get_or, take, drop, length-append, length-take, length-drop, drop_of_length-le}
-use lib.Seq.{drop-drop, get_or_at, get_or-take, take-add, take_all, take-append-le, take_at}
-use borrow.Author.Tests.{eq-eqb, ne_eqb, leb-true, ltb-false, not-false}
+use mathlib.Core.List.{flatten}
+use lib.Seq.{get_or_at, take-append-le}
+use borrow.Author.Tests.{not-false}
+use Rattle.std.proofs.Common.{ℕ, zero, suc, ◌+◌, ◌*◌, ◌-◌, ◌/◌, ◌≤◌, ◌<◌, max, div-mul-le_self, le_refl, mul-le-mul_right, suc-mul, zero-mul, arith, ◌≡◌, refl, ap, sym, ◌∙◌, Bool, List, [], ◌∷◌, ◌++◌, append_assoc, append-nil, length, get_or, take, drop, length-append, length-take, length-drop, drop_of_length-le, drop-drop, get_or-take, take-add, take_all, take_at, eq-eqb, ne_eqb, leb-true, ltb-false, Some}
 use Rattle.wire.specs.Bytes.{over}
 use Rattle.wire.specs.Choice.{pick, first_of}
 use Rattle.rules.specs.declared.Address.{Address}
 use Rattle.rules.specs.declared.Settings.{Settings}
-use Rattle.std.specs.Prelude.{Some}
 use Rattle.rules.specs.Answers.{Sent, Unsent}
 use Rattle.rules.specs.Section.{header, section_of}
 use Rattle.rules.specs.Meaning.{CutInto, Good}
@@ -135,14 +130,6 @@ module _ (n : ℕ) (u : List ℕ) (some : 0 < n) where
       let next : suc (suc k) ≤ q = omega arith in
       let more : suc (suc k) * n ≤ q * n = mul-le-mul_right n next in
       let step : suc (suc k) * n ≡ suc k * n + n = suc-mul (suc k) n in
-      omega arith
-
-  -- no more than one for each byte, and one
-  pub count_most : section_count n u ≤ length u + 1
-  count_most =
-      let k : ℕ = section_count n u - 1 in
-      let needed : k * n ≤ length u = count_needed k (omega (arith, count_some n u)) in
-      let more : k * 1 ≤ k * n = mul-le-mul_left k some in
       omega arith
 
   -- ---- it is cut into so many

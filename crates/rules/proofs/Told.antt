@@ -1,15 +1,13 @@
 -- What the code's answers tell names them: two answers of which the same is told are equal.
-use Rattle.std.specs.Prelude.{ℕ, ◌≡◌, ◌≢◌, eqb, Result, Ok, Err}
-use mathlib.Core.Path.{refl, ap, sym, ◌∙◌}
-use Rattle.std.proofs.Common.{arith}
+use Rattle.std.proofs.Common.{ℕ, ◌≡◌, ◌≢◌, eqb, Result, Ok, Err, refl, ap, sym, ◌∙◌, arith}
 use Rattle.wire.specs.Choice.{pick}
 use Rattle.rules.specs.declared.Refusal.{Refusal}
-use Rattle.rules.specs.declared.Refusal.TheVariants as refusal
 use Rattle.rules.specs.declared.Reception.{Reception}
-use Rattle.rules.specs.declared.Reception.TheVariants as reception
 use Rattle.rules.specs.declared.Step.{Step as CodeStep}
 use Rattle.rules.specs.Answers.{Answer, Delivered, Stored, PassedBy, Refused, Step, Sending, Sent, Unsent}
 use Rattle.rules.specs.Told.{number, refusal_number, answer_told, step_told, sending_told}
+use Rattle.rules.specs.declared.Refusal.TheVariants as refusal
+use Rattle.rules.specs.declared.Reception.TheVariants as reception
 
 -- the refusal that has the number n
 unfoldable named : ℕ → Refusal

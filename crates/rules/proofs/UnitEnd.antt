@@ -1,18 +1,10 @@
 -- A header says one length at most, so the rule's tests find an end exactly where the joined payloads begin with a datagram.
-use Prim.Native.Nat.{ℕ, ◌+◌, ◌≤◌}
-use native.Mathlib.Omega.{arith}
-use mathlib.Core.Path.{◌≡◌, refl, ap, subst, sym, ◌∙◌}
-use mathlib.Core.Logic.{◌↔◌, inl, inr, ⊎_elim}
-use mathlib.Core.List.{List}
-use mathlib.Core.Bool.{Bool, true, false, not}
-use lib.ListN.{length}
-use lib.Dec.{eqb, leb}
-use borrow.Author.Tests.{eq-eqb, eqb-false, eqb-true, leb-false, leb-true}
+use borrow.Author.Tests.{eqb-false}
+use Rattle.std.proofs.Common.{ℕ, ◌+◌, ◌≤◌, arith, ◌≡◌, refl, ap, subst, sym, ◌∙◌, ◌↔◌, inl, inr, ⊎_elim, List, Bool, true, false, not, length, eqb, leb, eq-eqb, eqb-true, leb-false, leb-true, Option, Some, None}
 use Rattle.wire.specs.Bytes.{bits, byte_at, number_at}
 use Rattle.wire.specs.Choice.{both, pick}
 use Rattle.wire.proofs.Choice.{never}
 use Rattle.wire.proofs.Meaning.{Tells}
-use Rattle.std.specs.Prelude.{Option, Some, None}
 use Rattle.rules.specs.UnitEnd.{BeginsWith, datagram_end, ends_at, end_within, NoDatagram, NotOneDatagram, payload_length, Says, total_length, unit_end, UnitLength, version}
 
 -- ---- ends

@@ -1,11 +1,6 @@
 -- A table of tests gives the number of the first row that applies, where each test holds exactly where its row's meaning does.
-use Prim.Native.Nat.{ℕ, ◌<◌, ◌≤◌}
-use mathlib.Core.Path.{◌≡◌, refl, sym, ap, ◌∙◌}
-use mathlib.Core.Logic.{◌↔◌, ◌⊎◌, inl, inr}
-use mathlib.Core.List.{List, [], ◌∷◌}
-use mathlib.Core.Bool.{Bool, true, false, not}
-use lib.Dec.{eqb, leb, ltb}
-use borrow.Author.Tests.{eq-eqb, eqb-true, le-leb, leb-true, leb-false, lt-leb, lt-ltb, ltb-true, not-true}
+use borrow.Author.Tests.{lt-leb, not-true}
+use Rattle.std.proofs.Common.{ℕ, ◌<◌, ◌≤◌, ◌≡◌, refl, sym, ap, ◌∙◌, ◌↔◌, ◌⊎◌, inl, inr, List, [], ◌∷◌, Bool, true, false, not, eqb, leb, ltb, eq-eqb, eqb-true, le-leb, leb-true, leb-false, lt-ltb, ltb-true}
 use Rattle.wire.specs.Choice.{pick, both, either, Line, first, first_of, without}
 use Rattle.wire.specs.Meaning.{FirstThat, Outside, Row, ◌means◌}
 use Rattle.wire.proofs.Choice.{both_true, never}
