@@ -2,7 +2,7 @@
 use native.Mathlib.Decide.{ℕ_discrete}
 use mathlib.Core.List.{flatten}
 use lib.Seq.{take-length}
-use borrow.Author.Tests.{eqb-false}
+use Rattle.std.proofs.lemmas.Bool.{eqb-false}
 use Rattle.std.proofs.Common.{ℕ, ◌+◌, ◌≤◌, ◌<◌, arith, ◌≡◌, refl, ap, ◌∙◌, ◌≢◌, List, append_assoc, Bool, true, false, length, take_all, eqb, eq-eqb, eqb-true, leb-true, ne_eqb, Option, Some, None}
 use Rattle.wire.specs.Bytes.{bit, byte_at}
 use Rattle.wire.specs.Choice.{both, first_of, Line, pick, without}

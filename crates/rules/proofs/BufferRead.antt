@@ -1,5 +1,5 @@
 -- Of the buffer only the room and, at number L, the end of the unit are asked; all else of an answer is by the section and the state.
-use borrow.Author.Tests.{eqb-false}
+use Rattle.std.proofs.lemmas.Bool.{eqb-false}
 use Rattle.std.proofs.Common.{ℕ, arith, ◌≡◌, refl, ap, List, ◌++◌, Bool, true, false, length-append, length-take, take, eqb, eqb-true, Option, Some, None}
 use Rattle.wire.specs.Bytes.{bit, byte_at}
 use Rattle.wire.specs.Choice.{first_of, Line, pick}

@@ -1,5 +1,5 @@
 -- The tests that lead to an answer say whether the row ends in a run with the section, and whether that run is whole.
-use borrow.Author.Tests.{eqb-false, not-true}
+use Rattle.std.proofs.lemmas.Bool.{eqb-false, not-true}
 use Rattle.std.proofs.Common.{ℕ, ◌+◌, ◌≤◌, ◌<◌, arith, ◌≡◌, refl, ap, ap₂, sym, ◌∙◌, ◌↔◌, Bool, true, false, List, [], ◌∷◌, ◌++◌, length, take, eqb-true, leb-true, leb-false, Option}
 use Rattle.wire.specs.Choice.{pick, both, first, first_of}
 use Rattle.wire.proofs.Choice.{both_true, never}

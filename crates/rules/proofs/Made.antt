@@ -1,6 +1,6 @@
 -- The receiver makes good states only: what it passes by leaves a state that was tested, and of what it stores each number and the address
 -- were tested.
-use borrow.Author.Tests.{eqb-false, not-false}
+use Rattle.std.proofs.lemmas.Bool.{eqb-false, not-false}
 use Rattle.std.proofs.Common.{ℕ, ◌+◌, ◌*◌, ◌≤◌, arith, ◌≡◌, refl, Bool, true, false, List, length, eqb, eqb-true, leb-true}
 use Rattle.wire.specs.Choice.{first_of, pick}
 use Rattle.wire.proofs.Choice.{both_true, none_first}

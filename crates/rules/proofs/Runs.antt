@@ -1,7 +1,8 @@
 -- A section's number and its index in the row say where its run begins, so runs that share a section are one.
 use native.Mathlib.Decide.{dec_le, dec_lt}
-use lib.ListN.{length-map, get_or-append, get_or-map}
+use lib.ListN.{get_or-append, get_or-map}
 use lib.Seq.{get_or-append_seam}
+use Rattle.std.proofs.lemmas.List.{length-map}
 use Rattle.std.proofs.Common.{ℕ, ◌+◌, ◌-◌, ◌≤◌, ◌<◌, arith, ◌≡◌, ap, sym, ◌∙◌, List, [], ◌∷◌, ◌++◌, map, append_assoc, append-nil, length, get_or, take, length-append, ext_get_or, get_or-append-add}
 use Rattle.rules.specs.declared.Settings.{Settings}
 use Rattle.rules.specs.declared.Key.{Key}

@@ -2,7 +2,8 @@
 use native.Mathlib.Decide.{dec_lt}
 use mathlib.Core.List.{flatten}
 use lib.ListN.{get_or-append}
-use lib.Seq.{get_or-append_seam, get_or_at}
+use lib.Seq.{get_or-append_seam}
+use Rattle.std.proofs.lemmas.List.{get_or_at}
 use Rattle.std.proofs.Common.{ℕ, zero, suc, ◌+◌, ◌*◌, ◌-◌, ◌≤◌, ◌<◌, suc-mul, zero-mul, arith, ◌≡◌, refl, ap, sym, ◌∙◌, Bool, List, [], ◌∷◌, ◌++◌, append_assoc, append-nil, map, get_or, length, length-append, length-drop, length-take, take}
 use Rattle.rules.specs.declared.Settings.{Settings}
 use Rattle.rules.specs.Demand2.{Sections, SectionSent}

@@ -2,8 +2,8 @@
 use native.Mathlib.Nat.{le-max_right, lt-div-mul-add}
 use native.Mathlib.Decide.{dec_le, dec_lt, ℕ_discrete}
 use mathlib.Core.List.{flatten}
-use lib.Seq.{get_or_at, take-append-le}
-use borrow.Author.Tests.{not-false}
+use Rattle.std.proofs.lemmas.Bool.{not-false}
+use Rattle.std.proofs.lemmas.List.{get_or_at, take-append-le}
 use Rattle.std.proofs.Common.{ℕ, zero, suc, ◌+◌, ◌*◌, ◌-◌, ◌/◌, ◌≤◌, ◌<◌, max, div-mul-le_self, le_refl, mul-le-mul_right, suc-mul, zero-mul, arith, ◌≡◌, refl, ap, sym, ◌∙◌, Bool, List, [], ◌∷◌, ◌++◌, append_assoc, append-nil, length, get_or, take, drop, length-append, length-take, length-drop, drop_of_length-le, drop-drop, get_or-take, take-add, take_all, take_at, eq-eqb, ne_eqb, leb-true, ltb-false, Some}
 use Rattle.wire.specs.Bytes.{over}
 use Rattle.wire.specs.Choice.{pick, first_of}

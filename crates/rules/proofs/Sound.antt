@@ -1,5 +1,5 @@
 -- A section is sound where no line of the check applies, so each line's test is false of it, and the test says the fact.
-use borrow.Author.Tests.{eqb-false, not-false}
+use Rattle.std.proofs.lemmas.Bool.{eqb-false, not-false}
 use Rattle.std.proofs.Common.{ℕ, ◌+◌, ◌-◌, ◌≤◌, arith, ◌≡◌, refl, List, false, not, length, take, length-take, length-drop, eqb, le-ltb, ltb-false, eqb-true}
 use Rattle.wire.specs.Choice.{both, first, first_of, without}
 use Rattle.wire.proofs.Choice.{either_false, none_first, none_parts}

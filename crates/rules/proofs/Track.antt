@@ -1,5 +1,6 @@
 -- A payload goes somewhere exactly where it goes on with a run that the row ends in, since the state says which run that is.
-use lib.Seq.{length-paste, take-paste, take-length}
+use lib.Seq.{take-length}
+use Rattle.std.proofs.lemmas.List.Edits.{length-paste, take-paste}
 use Rattle.std.proofs.Common.{ℕ, ◌+◌, ◌≤◌, ◌<◌, le_refl, arith, ◌≡◌, refl, ap, sym, ◌∙◌, Bool, true, false, List, [], ◌∷◌, ◌++◌, length, get_or, take, eqb, eqb-true, eq-eqb, ne_eqb}
 use Rattle.wire.specs.Choice.{pick, both}
 use Rattle.rules.specs.declared.Settings.{Settings}

@@ -1,5 +1,5 @@
 -- A header says one length at most, so the rule's tests find an end exactly where the joined payloads begin with a datagram.
-use borrow.Author.Tests.{eqb-false}
+use Rattle.std.proofs.lemmas.Bool.{eqb-false}
 use Rattle.std.proofs.Common.{ℕ, ◌+◌, ◌≤◌, arith, ◌≡◌, refl, ap, subst, sym, ◌∙◌, ◌↔◌, inl, inr, ⊎_elim, List, Bool, true, false, not, length, eqb, leb, eq-eqb, eqb-true, leb-false, leb-true, Option, Some, None}
 use Rattle.wire.specs.Bytes.{bits, byte_at, number_at}
 use Rattle.wire.specs.Choice.{both, pick}

@@ -1,5 +1,5 @@
 -- A table of tests gives the number of the first row that applies, where each test holds exactly where its row's meaning does.
-use borrow.Author.Tests.{lt-leb, not-true}
+use Rattle.std.proofs.lemmas.Bool.{lt-leb, not-true}
 use Rattle.std.proofs.Common.{ℕ, ◌<◌, ◌≤◌, ◌≡◌, refl, sym, ap, ◌∙◌, ◌↔◌, ◌⊎◌, inl, inr, List, [], ◌∷◌, Bool, true, false, not, eqb, leb, ltb, eq-eqb, eqb-true, le-leb, leb-true, leb-false, lt-ltb, ltb-true}
 use Rattle.wire.specs.Choice.{pick, both, either, Line, first, first_of, without}
 use Rattle.wire.specs.Meaning.{FirstThat, Outside, Row, ◌means◌}
