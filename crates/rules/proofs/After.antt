@@ -1,7 +1,7 @@
 -- Each outcome that the tables reach has what goes with its number: a refusal, what is passed by, and what is kept.
-use native.Mathlib.Decide.{ℕ_discrete}
+use Rattle.std.proofs.Math.Decide.{ℕ_discrete}
 use mathlib.Core.List.{flatten}
-use lib.Seq.{take-length}
+use Rattle.std.proofs.Math.Seq.{take-length}
 use Rattle.std.proofs.lemmas.Bool.{eqb-false}
 use Rattle.std.proofs.Common.{ℕ, ◌+◌, ◌≤◌, ◌<◌, arith, ◌≡◌, refl, ap, ◌∙◌, ◌≢◌, List, append_assoc, Bool, true, false, length, take_all, eqb, eq-eqb, eqb-true, leb-true, ne_eqb, Option, Some, None}
 use Rattle.wire.specs.Bytes.{bit, byte_at}

@@ -1,5 +1,5 @@
 -- A byte that the range reaches is tested, and any other passes.
-use native.Mathlib.Decide.{dec_le}
+use Rattle.std.proofs.Math.Decide.{dec_le}
 use Rattle.std.proofs.Common.{ℕ, zero, suc, ◌-◌, ◌≤◌, ◌<◌, arith, ◌≡◌, refl, ap, ◌↔◌, true, eq-eqb, eqb-true, le-ltb, lt-ltb}
 use Rattle.wire.specs.Bytes.{byte_at}
 use Rattle.wire.specs.Choice.{both, either}

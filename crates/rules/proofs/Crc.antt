@@ -1,5 +1,5 @@
 -- CRC_32 adds over xor because each bit that goes in only shifts the register and adds the polynomial or not.
-use lib.Arith.{bin_ind}
+use Rattle.std.proofs.Math.Arith.{bin_ind}
 use lib.Bits.{differ, xor_step}
 use Rattle.std.proofs.lemmas.Nat.{xor_comm, xor_lt, xor_shr, xor_mod, xor_block}
 use Rattle.std.proofs.Common.{◌≡◌, refl, sym, ap, ap₂, ◌∙◌, List, [], ◌∷◌, ◌++◌, ℕ, zero, suc, ◌*◌, ◌+◌, ◌/◌, ◌%◌, ◌^◌, ◌<◌, mod-lt, zero-lt-suc, le_of_suc-le-suc, not-suc-le-zero, add-zero, div-lt_iff_lt-mul, arith, bit_xor, pow_pos}

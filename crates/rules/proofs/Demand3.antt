@@ -1,6 +1,6 @@
 -- Each of the receiver's tests holds exactly where its words do, so the row theorem says demand 3 in these words.
-use lib.ListN.{get_or-map}
-use lib.Seq.{get_or-append_seam, split_at}
+use Rattle.std.proofs.Math.ListN.{get_or-map}
+use Rattle.std.proofs.Math.Seq.{get_or-append_seam, split_at}
 use Rattle.std.proofs.lemmas.Bool.{not-true}
 use Rattle.std.proofs.lemmas.List.{length-map}
 use Rattle.std.proofs.Common.{ℕ, suc, zero, ◌<◌, arith, ◌≡◌, refl, ap, sym, ◌∙◌, ◌↔◌, ◌⊎◌, inl, inr, Bool, true, false, List, [], ◌∷◌, ◌++◌, map, drop, get_or, length, length-append, take, length-take-le, eqb-true}

@@ -1,6 +1,6 @@
 -- A row that arrives hands over nothing at each section but the last, and the unit there: what is handed over is told by the answer.
-use native.Mathlib.Decide.{dec_lt}
-use lib.ListN.{get_or-append}
+use Rattle.std.proofs.Math.Decide.{dec_lt}
+use Rattle.std.proofs.Math.ListN.{get_or-append}
 use Rattle.std.proofs.lemmas.List.{get_or-replicate, length-map, length-replicate, get_or_at}
 use Rattle.std.proofs.Common.{ℕ, zero, suc, ◌+◌, ◌-◌, ◌<◌, arith, ◌≡◌, refl, ap, sym, ◌∙◌, List, [], ◌∷◌, ◌++◌, map, get_or, length, length-append, replicate, take, ext_get_or}
 use Rattle.rules.specs.declared.Settings.{Settings}

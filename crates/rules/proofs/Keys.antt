@@ -1,5 +1,5 @@
 -- The test of two keys holds exactly where the keys are equal, since it compares every field.
-use mathlib.Core.Bool.{beq}
+use Rattle.std.proofs.Math.Bool.{beq}
 use Rattle.std.proofs.Common.{◌≡◌, refl, Bool, true, false, eqb-true, eq-eqb}
 use Rattle.wire.specs.Choice.{both}
 use Rattle.rules.specs.declared.Key.{Key}

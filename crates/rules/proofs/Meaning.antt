@@ -1,6 +1,6 @@
 -- Each line of a table tests what its row means, so the first line that applies has the number of the first row that does.
 use mathlib.Core.List.{flatten}
-use mathlib.Core.Bool.{beq}
+use Rattle.std.proofs.Math.Bool.{beq}
 use Rattle.std.proofs.lemmas.Bool.{eqb-false, lt-leb, not-false, not-true}
 use Rattle.std.proofs.Common.{ℕ, zero, suc, ◌+◌, ◌*◌, ◌-◌, ◌≤◌, ◌<◌, min, arith, ◌≡◌, refl, sym, ap, subst, ◌∙◌, ◌↔◌, ◌≢◌, ◌⊎◌, inl, inr, ⊎_elim, List, [], ◌∷◌, ◌++◌, Bool, true, false, not, length, take, eqb, leb, ltb, eqb-true, leb-false, leb-true, ltb-false, ne_eqb, Option, Some, None}
 use Rattle.wire.specs.Bytes.{bit, bits, byte_at, number_at}

@@ -1,5 +1,5 @@
 -- An offer is as long as its first three bytes say, or as what is left; each takes a byte or more, so the offers come to an end.
-use native.Mathlib.Decide.{dec_le}
+use Rattle.std.proofs.Math.Decide.{dec_le}
 use Rattle.std.proofs.Common.{ℕ, zero, suc, ◌+◌, ◌≤◌, ◌<◌, min, arith, ◌≡◌, refl, ap, ◌∙◌, List, [], ◌∷◌, length, take, drop, length-drop, get_or-take, lt-ltb, le-ltb, ne_eqb}
 use Rattle.wire.specs.Bytes.{number_at}
 use Rattle.wire.specs.Choice.{pick}

@@ -1,6 +1,6 @@
 -- As many pieces as the section limit hold the unit exactly where it is not longer than they are, and a section is its piece and 16 bytes more.
-use native.Mathlib.Decide.{dec_le, dec_lt}
-use lib.Seq.{get_or-append_seam}
+use Rattle.std.proofs.Math.Decide.{dec_le, dec_lt}
+use Rattle.std.proofs.Math.Seq.{get_or-append_seam}
 use Rattle.std.proofs.Common.{ℕ, ◌+◌, ◌*◌, ◌-◌, ◌≤◌, ◌<◌, mul_comm, mul-le-mul_right, arith, ◌≡◌, refl, ap, sym, ◌∙◌, inl, inr, ⊎_elim, List, [], ◌∷◌, ◌++◌, Bool, false, drop, get_or, length, length-append, take}
 use Rattle.wire.specs.Meaning.{FirstThat}
 use Rattle.rules.specs.declared.Settings.{Settings}

@@ -1,5 +1,5 @@
 -- Of a sound section each test says its fact: what the bits of a byte are, so what the byte is; and where the CRC_32 stands, what it is.
-use native.Mathlib.Nat.{div-div-eq-div-mul}
+use Rattle.std.proofs.Math.Nat.{div-div-eq-div-mul}
 use Rattle.std.proofs.lemmas.Bool.{eqb-false}
 use Rattle.std.proofs.Common.{ℕ, ◌+◌, ◌-◌, ◌*◌, ◌/◌, ◌%◌, ◌≤◌, ◌<◌, arith, ◌≡◌, refl, sym, ap, ◌∙◌, Bool, true, false, List, ◌∷◌, ◌++◌, length, take, drop, length-drop, take-append-drop, eqb, take-add, take_all, eqb-true}
 use Rattle.wire.specs.Bytes.{Bytes, bits, byte_at, bytes_of, number_at}

@@ -1,6 +1,6 @@
 -- Each offer is cut off the front and takes a byte or more, so as many offers as there are bytes reach the end.
 use mathlib.Core.List.{flatten}
-use lib.ListN.{get_or-append}
+use Rattle.std.proofs.Math.ListN.{get_or-append}
 use Rattle.std.proofs.Common.{ℕ, zero, suc, ◌+◌, ◌≤◌, ◌<◌, le_refl, arith, ◌≡◌, refl, List, [], ◌∷◌, ◌++◌, length, get_or, drop, length-append, length-drop, take-append-drop, take_at, drop_at, le-ltb}
 use Rattle.wire.specs.Bytes.{number_at}
 use Rattle.wire.specs.Choice.{pick}

@@ -1,9 +1,9 @@
 -- Pieces of n bytes are cut off the front until nothing is left, so the first k of them are the unit's first k * n bytes.
-use native.Mathlib.Nat.{le-max_right, lt-div-mul-add}
-use native.Mathlib.Decide.{dec_le, dec_lt, ℕ_discrete}
+use Rattle.std.proofs.Math.Nat.{le-max_right, lt-div-mul-add}
+use Rattle.std.proofs.Math.Decide.{dec_le, dec_lt, ℕ_discrete}
 use mathlib.Core.List.{flatten}
 use Rattle.std.proofs.lemmas.Bool.{not-false}
-use Rattle.std.proofs.lemmas.List.{get_or_at, take-append-le}
+use Rattle.std.proofs.lemmas.List.{get_or_at, take-append-le, length_push}
 use Rattle.std.proofs.Common.{ℕ, zero, suc, ◌+◌, ◌*◌, ◌-◌, ◌/◌, ◌≤◌, ◌<◌, max, div-mul-le_self, le_refl, mul-le-mul_right, suc-mul, zero-mul, arith, ◌≡◌, refl, ap, sym, ◌∙◌, Bool, List, [], ◌∷◌, ◌++◌, append_assoc, append-nil, length, get_or, take, drop, length-append, length-take, length-drop, drop_of_length-le, drop-drop, get_or-take, take-add, take_all, take_at, eq-eqb, ne_eqb, leb-true, ltb-false, Some}
 use Rattle.wire.specs.Bytes.{over}
 use Rattle.wire.specs.Choice.{pick, first_of}
@@ -15,7 +15,6 @@ use Rattle.rules.specs.Meaning.{CutInto, Good}
 use Rattle.rules.proofs.Tested.{joined}
 use Rattle.rules.specs.Send.{piece, section_at, section_count, sections, sections_to, sending_length, sending_number, send_lines, SendOutcome, sent_of, written}
 use Rattle.rules.specs.UnitEnd.{unit_end}
-use Rattle.rules.proofs.Lists.{length_more}
 use Rattle.rules.proofs.Runs.{joined_more}
 use Rattle.wire.proofs.Choice.{both_true, none_first}
 use Rattle.rules.proofs.Good.{good_is}
@@ -205,7 +204,7 @@ module _ (c : Settings) (llc_snap : Bool) (n : ℕ) (u : List ℕ) where
   pub sections_length : (k : ℕ) → length (sections_to c llc_snap n u k) ≡ k
   unfolding sections_to
   sections_length zero = refl
-  sections_length (suc k) = length_more (sections_to c llc_snap n u k) (section_at c llc_snap n u k) ∙ omega (arith, sections_length k)
+  sections_length (suc k) = length_push (sections_to c llc_snap n u k) (section_at c llc_snap n u k) ∙ omega (arith, sections_length k)
 
   -- the first i of them
   pub sections_take : (k i : ℕ) → i ≤ k → take i (sections_to c llc_snap n u k) ≡ sections_to c llc_snap n u i

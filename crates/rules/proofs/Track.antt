@@ -1,6 +1,7 @@
 -- A payload goes somewhere exactly where it goes on with a run that the row ends in, since the state says which run that is.
-use lib.Seq.{take-length}
+use Rattle.std.proofs.Math.Seq.{take-length}
 use Rattle.std.proofs.lemmas.List.Edits.{length-paste, take-paste}
+use Rattle.std.proofs.lemmas.List.{length_push}
 use Rattle.std.proofs.Common.{ℕ, ◌+◌, ◌≤◌, ◌<◌, le_refl, arith, ◌≡◌, refl, ap, sym, ◌∙◌, Bool, true, false, List, [], ◌∷◌, ◌++◌, length, get_or, take, eqb, eqb-true, eq-eqb, ne_eqb}
 use Rattle.wire.specs.Choice.{pick, both}
 use Rattle.rules.specs.declared.Settings.{Settings}
@@ -12,7 +13,6 @@ use Rattle.rules.specs.Section.{section_number, last_section_number, llc_snap_fl
 use Rattle.rules.specs.Step.{continues, key_of, laid, onward, Nowhere, From, fill_from, room}
 use Rattle.rules.specs.Row.{Event, section}
 use Rattle.rules.proofs.Tested.{joined, Receivable, InRun}
-use Rattle.rules.proofs.Lists.{length_more}
 use Rattle.rules.proofs.Keys.{same_key_is, key_same}
 use Rattle.wire.proofs.Choice.{both_true}
 use Rattle.rules.proofs.Sound.{sound}
@@ -133,7 +133,7 @@ module _ (c : Settings) (b : List ℕ) where
       record {
         sections = g.sections ++ (s ∷ []);
         run = more c b s g.run in_run (omega (arith, g.filled));
-        count = omega (arith, length_more g.sections s, g.count);
+        count = omega (arith, length_push g.sections s, g.count);
         filled = omega (arith, joined_length g.sections s, g.filled);
         bytes = laid_take f s now (omega (arith, (room_bounds b).1)) ∙ rw (g.bytes, joined_more g.sections s);
       }

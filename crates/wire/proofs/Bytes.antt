@@ -1,7 +1,7 @@
 -- A number's bytes, written and read, are the number, and bytes side by side are bytes.
-use native.Mathlib.Nat.{mod-one, mul-add-div_right, mul-add-mod_self_right, one-le-pow, pow-succ'}
-use lib.Arith.{digits_div, digits_lt, mod-mul}
-use lib.Seq.{append_snoc, get_or-append_seam}
+use Rattle.std.proofs.Math.Nat.{mod-one, mul-add-div_right, mul-add-mod_self_right, one-le-pow, pow-succ'}
+use Rattle.std.proofs.Math.Arith.{digits_div, digits_lt, mod-mul}
+use Rattle.std.proofs.Math.Seq.{append_snoc, get_or-append_seam}
 use Rattle.std.proofs.Common.{ℕ, zero, suc, ◌+◌, ◌*◌, ◌/◌, ◌%◌, ◌^◌, ◌≤◌, ◌<◌, mod-eq_of_lt, mod-lt, mul_assoc, add-one, arith, ◌≡◌, refl, sym, ap, ap₂, ◌∙◌, List, [], ◌∷◌, ◌++◌, lit<, length, take, drop, length-append, drop-cons}
 use Rattle.wire.specs.Bytes.{Bytes, byte_at, number_at, bytes_of}
 

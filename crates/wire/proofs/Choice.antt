@@ -1,5 +1,5 @@
 -- A test decides a choice: each law puts the test's value in its place, and the choice computes.
-use native.Mathlib.Decide.{ℕ_discrete}
+use Rattle.std.proofs.Math.Decide.{ℕ_discrete}
 use Rattle.std.proofs.Common.{ℕ, ◌<◌, ◌≡◌, refl, sym, ◌∙◌, List, [], ◌∷◌, ◌++◌, Bool, true, false, not, eqb, eq-eqb, arith}
 use Rattle.wire.specs.Choice.{pick, both, either, Line, first, first_of, without}
 

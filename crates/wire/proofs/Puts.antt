@@ -1,6 +1,6 @@
 -- What is put where the last put ended stands after it, so puts in a row are one put of all their bytes.
-use native.Mathlib.Decide.{dec_le}
-use lib.Seq.{take-length}
+use Rattle.std.proofs.Math.Decide.{dec_le}
+use Rattle.std.proofs.Math.Seq.{take-length}
 use Rattle.std.proofs.lemmas.List.Edits.{drop-paste, length-paste, take-paste}
 use Rattle.std.proofs.Common.{ℕ, ◌+◌, ◌-◌, ◌≤◌, le_refl, arith, ◌≡◌, refl, sym, ap, ◌∙◌, List, ◌++◌, append_assoc, length, take, drop, length-append, drop_at, drop-drop, length-take-le, take_at}
 use Rattle.wire.specs.Puts.{Puts, PutsIfRoom}
