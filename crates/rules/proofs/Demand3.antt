@@ -1,12 +1,12 @@
 -- Each of the receiver's tests holds exactly where its words do, so the row theorem says demand 3 in these words.
 use Rattle.std.proofs.Math.ListN.{get_or-map}
 use Rattle.std.proofs.Math.Seq.{get_or-append_seam, split_at}
-use Rattle.std.proofs.lemmas.Bool.{not-true}
+use Rattle.std.proofs.lemmas.Bool.{false≢true, not-true}
 use Rattle.std.proofs.lemmas.List.{length-map}
 use Rattle.std.proofs.Common.{ℕ, suc, zero, ◌<◌, arith, ◌≡◌, refl, ap, sym, ◌∙◌, ◌↔◌, ◌⊎◌, inl, inr, Bool, true, false, List, [], ◌∷◌, ◌++◌, map, drop, get_or, length, length-append, take, length-take-le, eqb-true}
 use Rattle.wire.specs.Bytes.{Bytes}
 use Rattle.wire.specs.Choice.{both, first, first_of, pick}
-use Rattle.wire.proofs.Choice.{both_true, never}
+use Rattle.wire.proofs.Choice.{both_true}
 use Rattle.rules.specs.declared.Settings.{Settings}
 use Rattle.rules.specs.declared.Key.{Key}
 use Rattle.rules.specs.Check.{check}
@@ -63,13 +63,13 @@ tells c (section s) b = (
         values = read s;
         limits = read_limits s b sound;
         is = ap section (sym (read_is s b sound));
-        other = λ o. never (sym (not-true (ours c s) parts.1) ∙ (own_read c s).1 o);
+        other = λ o. false≢true (sym (not-true (ours c s) parts.1) ∙ (own_read c s).1 o);
       },
   λ w.
       let foreign : ours c (table3 w.values) ≡ false = not_so _ (λ p. w.other ((own_written c w.values).0 p)) in
       rw (same_section w.is, written_sound w.values w.limits, foreign),
 )
-tells c gap b = (λ p. absurd (never p), λ w. absurd (no_section w.is))
+tells c gap b = (λ p. absurd (false≢true p), λ w. absurd (no_section w.is))
 
 -- ---- the struck row, in words
 of_front : (e : Event) (r : List Event) → OfBytes (e ∷ r) → EventBytes e × OfBytes r
@@ -84,7 +84,7 @@ struck_more c e r t b h = go (elsewhere c e) refl
     go : (x : Bool) → elsewhere c e ≡ x
         → (Elsewhere c e × Struck c r (pick x t (e ∷ t))) ⊎ ((¬ Elsewhere c e) × ((u : List Event) × (pick x t (e ∷ t) ≡ e ∷ u) × Struck c r u))
     go true p = inl ((tells c e b).0 p, h)
-    go false p = inr (λ w. never (sym p ∙ (tells c e b).1 w), (t, refl, h))
+    go false p = inr (λ w. false≢true (sym p ∙ (tells c e b).1 w), (t, refl, h))
 
 strike_is : (c : Settings) (r : List Event) → OfBytes r → Struck c r (strike c r)
 unfolding Struck strike
@@ -331,7 +331,7 @@ module _ (c : Settings) (b : List ℕ) where
         let words = ready_is row n d ((good_is c).0 good) (of_strike c (r ++ (e ∷ [])) given) in
         (λ p. words.0 (hands.0 p), λ w. hands.1 (words.1 w))
     exactly false bad h n d =
-        (λ p. absurd (no_datagram (sym (bad_hands bad _ e) ∙ p)), λ w. absurd (never (sym bad ∙ (good_is c).1 w.run.good)))
+        (λ p. absurd (no_datagram (sym (bad_hands bad _ e) ∙ p)), λ w. absurd (false≢true (sym bad ∙ (good_is c).1 w.run.good)))
 
     handed_right : HandedRight c b r e (handed_over c (after c (fresh b) r) e)
     handed_right =

@@ -1,8 +1,8 @@
 -- The tests that lead to an answer say whether the row ends in a run with the section, and whether that run is whole.
-use Rattle.std.proofs.lemmas.Bool.{eqb-false, not-true}
+use Rattle.std.proofs.lemmas.Bool.{false≢true, eqb-false, not-true}
 use Rattle.std.proofs.Common.{ℕ, ◌+◌, ◌≤◌, ◌<◌, arith, ◌≡◌, refl, ap, ap₂, sym, ◌∙◌, ◌↔◌, Bool, true, false, List, [], ◌∷◌, ◌++◌, length, take, eqb-true, leb-true, leb-false, Option}
 use Rattle.wire.specs.Choice.{pick, both, first, first_of}
-use Rattle.wire.proofs.Choice.{both_true, never}
+use Rattle.wire.proofs.Choice.{both_true}
 use Rattle.rules.specs.declared.Settings.{Settings}
 use Rattle.rules.specs.declared.Key.{Key}
 use Rattle.rules.specs.declared.State.{State}
@@ -188,6 +188,6 @@ module _ (c : Settings) (b : List ℕ) where
         let t = own_none c s (eqb-true _ _ free) in
         lays (record { sound = eqb-true _ _ sound; address = address; clear = t.0; within = t.1 }) (fill_from h.state s) refl)
         (λ refused. refusing (λ κ l. let r = l.in_run.receivable in eqb-false _ _ refused (none_own c s r.clear r.within))))
-        (λ foreign. absurd (never (sym kept ∙ struck_is c s (eqb-true _ _ sound) foreign))))
+        (λ foreign. absurd (false≢true (sym kept ∙ struck_is c s (eqb-true _ _ sound) foreign))))
         (λ unsound. refusing (λ κ l. eqb-false _ _ unsound l.in_run.receivable.sound)))
         (λ bad. absurd (eqb-false _ _ bad (settled c h.state good i.good)))

@@ -1,12 +1,12 @@
 -- Each line of a table tests what its row means, so the first line that applies has the number of the first row that does.
 use mathlib.Core.List.{flatten}
 use Rattle.std.proofs.Math.Bool.{beq}
-use Rattle.std.proofs.lemmas.Bool.{eqb-false, lt-leb, not-false, not-true}
+use Rattle.std.proofs.lemmas.Bool.{false≢true, eqb-false, lt-leb, not-false, not-true}
 use Rattle.std.proofs.Common.{ℕ, zero, suc, ◌+◌, ◌*◌, ◌-◌, ◌≤◌, ◌<◌, min, arith, ◌≡◌, refl, sym, ap, subst, ◌∙◌, ◌↔◌, ◌≢◌, ◌⊎◌, inl, inr, ⊎_elim, List, [], ◌∷◌, ◌++◌, Bool, true, false, not, length, take, eqb, leb, ltb, eqb-true, leb-false, leb-true, ltb-false, ne_eqb, Option, Some, None}
 use Rattle.wire.specs.Bytes.{bit, bits, byte_at, number_at}
 use Rattle.wire.specs.Choice.{pick, both, Line, first, first_of, without}
 use Rattle.wire.specs.Meaning.{Row, ◌means◌}
-use Rattle.wire.proofs.Choice.{both_true, never, not_first}
+use Rattle.wire.proofs.Choice.{both_true, not_first}
 use Rattle.wire.proofs.Meaning.{Gives, gives_last, gives_row, or_else_is, or_zero, or_else, Tells, tells_both, tells_either, tells_eq, tells_le, tells_lt, tells_not, tells_outside}
 use Rattle.rules.specs.declared.Address.{Address}
 use Rattle.rules.specs.Answers.{PassedBy, Stored}
@@ -77,7 +77,7 @@ datagram_syntax s =
       gives = λ g.
           gives_row _ 24 checksum (λ e24.
           gives_row _ 15 (
-            λ p. ⊎_elim (λ c. absurd (never (sym e24 ∙ checksum.1 c))) (λ e. e) ((indicated s).0 (wrong.0 p)),
+            λ p. ⊎_elim (λ c. absurd (false≢true (sym e24 ∙ checksum.1 c))) (λ e. e) ((indicated s).0 (wrong.0 p)),
             λ e. wrong.1 ((indicated s).1 (inr e)),
           ) (g e24));
     }
@@ -118,8 +118,8 @@ flag_tells x t h = go (eqb x 1) refl t
   where
     go : (r : Bool) → eqb x 1 ≡ r → (t : Bool) → Tells (beq r t) (x ≡ pick t 1 0)
     go true e true = (λ _. eqb-true x 1 e, λ _. refl)
-    go true e false = (λ z. absurd (never z), λ q. let one : x ≡ 1 = eqb-true x 1 e in absurd (omega arith))
-    go false e true = (λ z. absurd (never z), λ q. absurd (eqb-false x 1 e q))
+    go true e false = (λ z. absurd (false≢true z), λ q. let one : x ≡ 1 = eqb-true x 1 e in absurd (omega arith))
+    go false e true = (λ z. absurd (false≢true z), λ q. absurd (eqb-false x 1 e q))
     go false e false = let other : x ≡ 1 → ⊥ = eqb-false x 1 e in (λ _. omega arith, λ _. refl)
 
 continues_tells : (e f : ℕ) (κ : Key) (s : List ℕ) → Tells (continues e κ s) (GoesOn (Open e f κ) s)
@@ -217,7 +217,7 @@ module _ (s b : List ℕ) where
 
   stopped : (σ : State) → byte_at s 6 ≢ 0 → (¬ GoesOn σ s) → Gives 22 (row22 σ ∷ rows23 σ)
   unfolding first
-  stopped σ e h = gives_row {m = 0} true 22 (λ _. (e, h), λ _. refl) (λ z. absurd (never (sym z)))
+  stopped σ e h = gives_row {m = 0} true 22 (λ _. (e, h), λ _. refl) (λ z. absurd (false≢true (sym z)))
 
   gives_onward : (σ : State) → byte_at s 6 ≢ 0 → 16 ≤ length s → Gives (number (lay (onward σ s) s b)) (row22 σ ∷ rows23 σ)
   unfolding onward lay pick number_of first GoesOn
@@ -226,8 +226,8 @@ module _ (s b : List ℕ) where
     where
       go : (t : Bool) → Tells t (GoesOn (Open n f κ) s) → Gives (number (lay (pick t (From f) Nowhere) s b)) (row22 (Open n f κ) ∷ rows23 (Open n f κ))
       go true h =
-          gives_row false 22 (λ z. absurd (never z), λ w. absurd (w.1 (h.0 refl))) (λ _. gives_laid (Open n f κ) f (filled_open n f κ (byte_at s 6) e) l)
-      go false h = stopped (Open n f κ) e (λ w. never (h.1 w))
+          gives_row false 22 (λ z. absurd (false≢true z), λ w. absurd (w.1 (h.0 refl))) (λ _. gives_laid (Open n f κ) f (filled_open n f κ (byte_at s 6) e) l)
+      go false h = stopped (Open n f κ) e (λ w. false≢true (h.1 w))
 
   gives_filled : (σ : State) → 16 ≤ length s → Gives (number (lay (fill_from σ s) s b)) (row22 σ ∷ rows23 σ)
   unfolding fill_from section_number pick first
@@ -236,7 +236,7 @@ module _ (s b : List ℕ) where
       go : (t : Bool) → eqb (byte_at s 6) 0 ≡ t → Gives (number (lay (pick t (From 0) (onward σ s)) s b)) (row22 σ ∷ rows23 σ)
       go true e =
           let zero : byte_at s 6 ≡ 0 = eqb-true _ _ e in
-          gives_row false 22 (λ z. absurd (never z), λ w. absurd (w.0 zero)) (λ _. gives_laid σ 0 (filled_zero σ (byte_at s 6) zero) l)
+          gives_row false 22 (λ z. absurd (false≢true z), λ w. absurd (w.0 zero)) (λ _. gives_laid σ 0 (filled_zero σ (byte_at s 6) zero) l)
       go false e = gives_onward σ (eqb-false _ _ e) l
 
 module _ (c : Settings) (σ : State) (s b : List ℕ) where

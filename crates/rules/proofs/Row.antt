@@ -1,7 +1,7 @@
 -- Demand 3 goes by the row: what is held after each event stands for the open run that the struck row ends in.
+use Rattle.std.proofs.lemmas.Bool.{false≢true}
 use Rattle.std.proofs.Common.{ℕ, arith, ◌≡◌, refl, ◌∙◌, ◌↔◌, Bool, true, false, List, [], ◌∷◌, ◌++◌, append_assoc, append-nil}
 use Rattle.wire.specs.Choice.{pick}
-use Rattle.wire.proofs.Choice.{never}
 use Rattle.rules.specs.declared.Settings.{Settings}
 use Rattle.rules.specs.Step.{gap_of, good_settings, good_state}
 use Rattle.rules.specs.Row.{Event, section, gap, Held, fresh, next, after, nothing, datagram, handed_by, handed_over}
@@ -36,7 +36,7 @@ pub struck_held : (c : Settings) (h : Held) (e : Event) → good_settings c ≡ 
     → elsewhere c e ≡ true → next c h e ≡ h
 unfolding next elsewhere
 struck_held c h (section s) good fine struck = rw (passes c h.state s h.buffer good fine struck)
-struck_held c h gap good fine struck = absurd (never struck)
+struck_held c h gap good fine struck = absurd (false≢true struck)
 
 -- nothing is handed over
 struck_hands : (c : Settings) (h : Held) (e : Event) → good_settings c ≡ true → good_state c h.state ≡ true

@@ -1,9 +1,8 @@
 -- A header says one length at most, so the rule's tests find an end exactly where the joined payloads begin with a datagram.
-use Rattle.std.proofs.lemmas.Bool.{eqb-false}
+use Rattle.std.proofs.lemmas.Bool.{false≢true, eqb-false}
 use Rattle.std.proofs.Common.{ℕ, ◌+◌, ◌≤◌, arith, ◌≡◌, refl, ap, subst, sym, ◌∙◌, ◌↔◌, inl, inr, ⊎_elim, List, Bool, true, false, not, length, eqb, leb, eq-eqb, eqb-true, leb-false, leb-true, Option, Some, None}
 use Rattle.wire.specs.Bytes.{bits, byte_at, number_at}
 use Rattle.wire.specs.Choice.{both, pick}
-use Rattle.wire.proofs.Choice.{never}
 use Rattle.wire.proofs.Meaning.{Tells}
 use Rattle.rules.specs.UnitEnd.{BeginsWith, datagram_end, ends_at, end_within, NoDatagram, NotOneDatagram, payload_length, Says, total_length, unit_end, UnitLength, version}
 
@@ -78,7 +77,7 @@ module _ (p : List ℕ) where
 
   endless_tells : {e : Option ℕ} → Found e → Tells (endless e) (NoDatagram p)
   unfolding endless
-  endless_tells (begins {n = n} w) = (λ q. absurd (never q), λ v. absurd (begins_not n w v))
+  endless_tells (begins {n = n} w) = (λ q. absurd (false≢true q), λ v. absurd (begins_not n w v))
   endless_tells (none w) = (λ _. w, λ _. refl)
 
   not_tells : {e : Option ℕ} → Found e → Tells (not (ends_at (length p) e)) (NotOneDatagram p)
@@ -86,7 +85,7 @@ module _ (p : List ℕ) where
   not_tells (begins {n = n} w) = go (eqb n (length p)) refl
     where
       go : (t : Bool) → eqb n (length p) ≡ t → Tells (not t) (NotOneDatagram p)
-      go true e = (λ q. absurd (never q), λ v. absurd (one v))
+      go true e = (λ q. absurd (false≢true q), λ v. absurd (one v))
         where
           one : NotOneDatagram p → ⊥
           one (inl v) = begins_not n w v
@@ -111,17 +110,17 @@ end_within_is false p n q = ((unit_ends false p n).0 q).most
 -- 25, and 54
 pub unit_endless : (llc_snap : Bool) (p : List ℕ) → Tells (endless (unit_end llc_snap p)) ((llc_snap ≡ false) × NoDatagram p)
 unfolding unit_end endless pick
-unit_endless true p = (λ q. absurd (never q), λ w. absurd (never (sym w.0)))
+unit_endless true p = (λ q. absurd (false≢true q), λ w. absurd (false≢true (sym w.0)))
 unit_endless false p = let t = endless_tells p (found p) in (λ q. (refl, t.0 q), λ w. t.1 w.1)
 
 pub unit_not_one : (llc_snap : Bool) (p : List ℕ) → Tells (not (ends_at (length p) (unit_end llc_snap p))) ((llc_snap ≡ false) × NotOneDatagram p)
 unfolding unit_end ends_at pick
 unit_not_one true p =
-    (λ q. absurd (never (rw (eq-eqb (length p) (length p) refl) at q)), λ w. absurd (never (sym w.0)))
+    (λ q. absurd (false≢true (rw (eq-eqb (length p) (length p) refl) at q)), λ w. absurd (false≢true (sym w.0)))
 unit_not_one false p = let t = not_tells p (found p) in (λ q. (refl, t.0 q), λ w. t.1 w.1)
 
 -- where 54 does not apply, the unit ends where its bytes do
 pub ends_at_is : (n : ℕ) (e : Option ℕ) → ends_at n e ≡ true → e ≡ Some n
 unfolding ends_at
 ends_at_is n (Some m) q = ap Some (eqb-true m n q)
-ends_at_is n None q = absurd (never q)
+ends_at_is n None q = absurd (false≢true q)

@@ -1,11 +1,8 @@
 -- A test decides a choice: each law puts the test's value in its place, and the choice computes.
 use Rattle.std.proofs.Math.Decide.{ℕ_discrete}
+pub use Rattle.std.proofs.lemmas.Bool.{false≢true as never}
 use Rattle.std.proofs.Common.{ℕ, ◌<◌, ◌≡◌, refl, sym, ◌∙◌, List, [], ◌∷◌, ◌++◌, Bool, true, false, not, eqb, eq-eqb, arith}
 use Rattle.wire.specs.Choice.{pick, both, either, Line, first, first_of, without}
-
--- no test is both
-pub never : false ≡ true → ⊥
-never e = let z : ◌≡◌ {A = ℕ} 0 1 = cc in omega arith
 
 pub yes_pick : {A : Type 0} {t : Bool} {m : A} (a b : A) → t ≡ true → m ≡ a → m ≡ pick t a b
 unfolding pick

@@ -1,9 +1,9 @@
 -- A table of tests gives the number of the first row that applies, where each test holds exactly where its row's meaning does.
-use Rattle.std.proofs.lemmas.Bool.{lt-leb, not-true}
+use Rattle.std.proofs.lemmas.Bool.{false≢true, lt-leb, not-true}
 use Rattle.std.proofs.Common.{ℕ, ◌<◌, ◌≤◌, ◌≡◌, refl, sym, ap, ◌∙◌, ◌↔◌, ◌⊎◌, inl, inr, List, [], ◌∷◌, Bool, true, false, not, eqb, leb, ltb, eq-eqb, eqb-true, le-leb, leb-true, leb-false, lt-ltb, ltb-true}
 use Rattle.wire.specs.Choice.{pick, both, either, Line, first, first_of, without}
 use Rattle.wire.specs.Meaning.{FirstThat, Outside, Row, ◌means◌}
-use Rattle.wire.proofs.Choice.{both_true, never}
+use Rattle.wire.proofs.Choice.{both_true}
 
 -- ---- a test and its meaning
 abbrev pub Tells : Bool → Type 0 → Type 0
@@ -19,13 +19,13 @@ pub tells_eq : (a b : ℕ) → Tells (eqb a b) (a ≡ b)
 tells_eq a b = (eqb-true a b, eq-eqb a b)
 
 pub tells_not : {p : Type 0} (t : Bool) → Tells t p → Tells (not t) (p → ⊥)
-tells_not true h = (λ e. absurd (never e), λ n. absurd (n (h.0 refl)))
-tells_not false h = (λ e p. never (h.1 p), λ n. refl)
+tells_not true h = (λ e. absurd (false≢true e), λ n. absurd (n (h.0 refl)))
+tells_not false h = (λ e p. false≢true (h.1 p), λ n. refl)
 
 pub tells_both : {p q : Type 0} (t u : Bool) → Tells t p → Tells u q → Tells (both t u) (p × q)
 unfolding both
 tells_both true u h k = (λ e. (h.0 refl, k.0 e), λ w. k.1 w.1)
-tells_both false u h k = (λ e. absurd (never e), λ w. h.1 w.0)
+tells_both false u h k = (λ e. absurd (false≢true e), λ w. h.1 w.0)
 
 pub tells_either : {p q : Type 0} (t u : Bool) → Tells t p → Tells u q → Tells (either t u) (p ⊎ q)
 unfolding either
@@ -33,7 +33,7 @@ tells_either true u h k = (λ e. inl (h.0 refl), λ w. refl)
 tells_either {p} {q} false u h k = (λ e. inr (k.0 e), go)
   where
     go : p ⊎ q → u ≡ true
-    go (inl x) = absurd (never (h.1 x))
+    go (inl x) = absurd (false≢true (h.1 x))
     go (inr y) = k.1 y
 
 -- not in least..most
@@ -42,11 +42,11 @@ unfolding both
 tells_outside least most x = go (leb least x) (leb x most) refl refl
   where
     go : (t u : Bool) → leb least x ≡ t → leb x most ≡ u → Tells (not (both t u)) (Outside least most x)
-    go true true e f = (λ z. absurd (never z), λ w. absurd (in_range w))
+    go true true e f = (λ z. absurd (false≢true z), λ w. absurd (in_range w))
       where
         in_range : Outside least most x → ⊥
-        in_range (inl l) = never (sym (lt-leb least x l) ∙ e)
-        in_range (inr m) = never (sym (lt-leb x most m) ∙ f)
+        in_range (inl l) = false≢true (sym (lt-leb least x l) ∙ e)
+        in_range (inr m) = false≢true (sym (lt-leb x most m) ∙ f)
     go true false e f = (λ z. inr (leb-false x most f), λ w. refl)
     go false u e f = (λ z. inl (leb-false least x e), λ w. refl)
 
@@ -84,10 +84,10 @@ gives_row {p} {m} {rows} true k h g = record { exactly = λ n. (λ e. inl (sym e
     go : (n : ℕ) → ((n ≡ k) × p) ⊎ ((p → ⊥) × FirstThat n rows) → k ≡ n
     go n (inl w) = sym w.0
     go n (inr w) = absurd (w.0 (h.0 refl))
-gives_row {p} {m} {rows} false k h g = record { exactly = λ n. (λ e. inr (λ x. never (h.1 x), ((g refl).exactly n).0 e), go n) }
+gives_row {p} {m} {rows} false k h g = record { exactly = λ n. (λ e. inr (λ x. false≢true (h.1 x), ((g refl).exactly n).0 e), go n) }
   where
     go : (n : ℕ) → ((n ≡ k) × p) ⊎ ((p → ⊥) × FirstThat n rows) → m ≡ n
-    go n (inl w) = absurd (never (h.1 w.1))
+    go n (inl w) = absurd (false≢true (h.1 w.1))
     go n (inr w) = ((g refl).exactly n).1 w.1
 
 pub gives_last : {p : Type 0} (k : ℕ) → p → Gives k (k means p ∷ [])
