@@ -1,9 +1,8 @@
 -- A header says one length at most, so the rule's tests find an end exactly where the joined payloads begin with a datagram.
 use Rattle.std.proofs.lemmas.Bool.{false≢true, eqb-false}
-use Rattle.std.proofs.Common.{ℕ, ◌+◌, ◌≤◌, arith, ◌≡◌, refl, ap, subst, sym, ◌∙◌, ◌↔◌, inl, inr, ⊎_elim, List, Bool, true, false, not, length, eqb, leb, eq-eqb, eqb-true, leb-false, leb-true, Option, Some, None}
+use Rattle.std.proofs.Common.{Decides, ℕ, ◌+◌, ◌≤◌, arith, ◌≡◌, refl, ap, subst, sym, ◌∙◌, ◌↔◌, inl, inr, ⊎_elim, List, Bool, true, false, not, length, eqb, leb, eq-eqb, eqb-true, leb-false, leb-true, Option, Some, None}
 use Rattle.wire.specs.Bytes.{bits, byte_at, number_at}
 use Rattle.wire.specs.Choice.{both, pick}
-use Rattle.wire.proofs.Meaning.{Tells}
 use Rattle.rules.specs.UnitEnd.{BeginsWith, datagram_end, ends_at, end_within, NoDatagram, NotOneDatagram, payload_length, Says, total_length, unit_end, UnitLength, version}
 
 -- ---- ends
@@ -75,16 +74,16 @@ module _ (p : List ℕ) where
       (λ q. subst (BeginsWith p) (same_end q) w, λ v. ap Some (begins_one m n w v))
   at_begins n (none w) = (λ q. absurd (no_end q), λ v. absurd (begins_not n v w))
 
-  endless_tells : {e : Option ℕ} → Found e → Tells (endless e) (NoDatagram p)
+  endless_tells : {e : Option ℕ} → Found e → Decides (endless e) (NoDatagram p)
   unfolding endless
   endless_tells (begins {n = n} w) = (λ q. absurd (false≢true q), λ v. absurd (begins_not n w v))
   endless_tells (none w) = (λ _. w, λ _. refl)
 
-  not_tells : {e : Option ℕ} → Found e → Tells (not (ends_at (length p) e)) (NotOneDatagram p)
+  not_tells : {e : Option ℕ} → Found e → Decides (not (ends_at (length p) e)) (NotOneDatagram p)
   unfolding ends_at
   not_tells (begins {n = n} w) = go (eqb n (length p)) refl
     where
-      go : (t : Bool) → eqb n (length p) ≡ t → Tells (not t) (NotOneDatagram p)
+      go : (t : Bool) → eqb n (length p) ≡ t → Decides (not t) (NotOneDatagram p)
       go true e = (λ q. absurd (false≢true q), λ v. absurd (one v))
         where
           one : NotOneDatagram p → ⊥
@@ -108,12 +107,12 @@ end_within_is true p n q = omega (arith, (unit_ends true p n).0 q)
 end_within_is false p n q = ((unit_ends false p n).0 q).most
 
 -- 25, and 54
-pub unit_endless : (llc_snap : Bool) (p : List ℕ) → Tells (endless (unit_end llc_snap p)) ((llc_snap ≡ false) × NoDatagram p)
+pub unit_endless : (llc_snap : Bool) (p : List ℕ) → Decides (endless (unit_end llc_snap p)) ((llc_snap ≡ false) × NoDatagram p)
 unfolding unit_end endless pick
 unit_endless true p = (λ q. absurd (false≢true q), λ w. absurd (false≢true (sym w.0)))
 unit_endless false p = let t = endless_tells p (found p) in (λ q. (refl, t.0 q), λ w. t.1 w.1)
 
-pub unit_not_one : (llc_snap : Bool) (p : List ℕ) → Tells (not (ends_at (length p) (unit_end llc_snap p))) ((llc_snap ≡ false) × NotOneDatagram p)
+pub unit_not_one : (llc_snap : Bool) (p : List ℕ) → Decides (not (ends_at (length p) (unit_end llc_snap p))) ((llc_snap ≡ false) × NotOneDatagram p)
 unfolding unit_end ends_at pick
 unit_not_one true p =
     (λ q. absurd (false≢true (rw (eq-eqb (length p) (length p) refl) at q)), λ w. absurd (false≢true (sym w.0)))
