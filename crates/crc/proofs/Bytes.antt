@@ -11,7 +11,8 @@ use lib.Bits.{bit_xor, xor_zero_r, xor_self}
 use lib.Pow.{pow_mono, pow_pos, pow-add, field, mod-mod-pow, high, shr-shr}
 use lib.Pow as pow
 use Rattle.rules.specs.Crc.{start, crc_bit, crc_bits, crc_byte, crc_from, crc32}
-use Rattle.rules.proofs.Crc.{crc_bits_lt, crc_bits_add, crc_from_append, xor_assoc}
+use Rattle.std.specs.Int.Bits.{xor_assoc}
+use Rattle.rules.proofs.Crc.{crc_bits_lt, crc_bits_add, crc_from_append}
 use Rattle.crc.specs.Words.{number, words, crc_words, crc_after}
 use Rattle.crc.proofs.Shifts.{up, moved, total_at, xor_eq}
 use Rattle.crc.proofs.Basis.{ones_before, ones_after, start_error, start_right}

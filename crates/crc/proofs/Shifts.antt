@@ -8,7 +8,8 @@ use mathlib.Core.Logic.{⊎_elim}
 use native.Mathlib.Omega.{arith}
 use lib.Bits.{bit_xor, xor_zero_r, xor_self, xor_shr, xor_mod, xor_shifted}
 use lib.Pow.{pow_pos, split}
-use Rattle.rules.proofs.Crc.{bit_cases, xor_assoc, xor_four, xor_shl}
+use Rattle.std.specs.Int.Bits.{xor_assoc}
+use Rattle.rules.proofs.Crc.{bit_cases, xor_four, xor_shl}
 
 -- a word of 64 bits where it is, moved up or moved down
 pub data Shift : Type 0 where

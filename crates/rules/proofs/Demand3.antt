@@ -1,7 +1,7 @@
 -- Each of the receiver's tests holds exactly where its words do, so the row theorem says demand 3 in these words.
 use Rattle.std.proofs.Math.ListN.{get_or-map}
 use Rattle.std.proofs.Math.Seq.{get_or-append_seam, split_at}
-use Rattle.std.proofs.lemmas.Bool.{false≢true, not-true}
+use Rattle.std.proofs.lemmas.Bool.{false_from_ne_true, false≢true, not-true}
 use Rattle.std.proofs.lemmas.List.{length-map}
 use Rattle.std.proofs.Common.{ℕ, suc, zero, ◌<◌, arith, ◌≡◌, refl, ap, sym, ◌∙◌, ◌↔◌, ◌⊎◌, inl, inr, Bool, true, false, List, [], ◌∷◌, ◌++◌, map, drop, get_or, length, length-append, take, length-take-le, eqb-true}
 use Rattle.wire.specs.Bytes.{Bytes}
@@ -43,10 +43,6 @@ unfoldable EventBytes : Event → Type 0
 EventBytes (section s) = Bytes s
 EventBytes gap = Unit
 
-not_so : (t : Bool) → (t ≡ true → ⊥) → t ≡ false
-not_so true h = absurd (h refl)
-not_so false h = refl
-
 same_section : {s t : List ℕ} → section s ≡ section t → s ≡ t
 same_section p = cc
 
@@ -66,7 +62,7 @@ tells c (section s) b = (
         other = λ o. false≢true (sym (not-true (ours c s) parts.1) ∙ (own_read c s).1 o);
       },
   λ w.
-      let foreign : ours c (table3 w.values) ≡ false = not_so _ (λ p. w.other ((own_written c w.values).0 p)) in
+      let foreign : ours c (table3 w.values) ≡ false = false_from_ne_true _ (λ p. w.other ((own_written c w.values).0 p)) in
       rw (same_section w.is, written_sound w.values w.limits, foreign),
 )
 tells c gap b = (λ p. absurd (false≢true p), λ w. absurd (no_section w.is))
@@ -313,7 +309,7 @@ module _ (c : Settings) (b : List ℕ) where
   bad_hands bad h gap = refl
 
   kept : (e : Event) → EventBytes e → ¬ Elsewhere c e → elsewhere c e ≡ false
-  kept e g h = not_so (elsewhere c e) (λ p. h ((tells c e g).0 p))
+  kept e g h = false_from_ne_true (elsewhere c e) (λ p. h ((tells c e g).0 p))
 
   -- ---- the demand
   module _ (r : List Event) (e : Event) (given : OfBytes (r ++ (e ∷ []))) where

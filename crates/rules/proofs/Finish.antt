@@ -1,9 +1,9 @@
 -- Where a unit is finished no run is left open, and exactly its bytes up to its end are handed over, as `up_to` says case by case.
+use Rattle.std.proofs.lemmas.Option.{none-some, same_Some}
 use Rattle.std.proofs.Common.{ℕ, ◌≤◌, arith, ◌≡◌, ap, refl, sym, ◌∙◌, ◌↔◌, List, length, take, length-take-le, take-take, Option, Some, None}
 use Rattle.rules.specs.declared.State.TheVariants.{Idle}
 use Rattle.rules.specs.Step.{Outcome, up_to}
 use Rattle.rules.specs.Row.{Held, Handed, datagram, handed_by, nothing}
-use Rattle.rules.proofs.UnitEnd.{no_end, same_end}
 
 abbrev pub handed : Outcome → Handed
 handed o = handed_by o.step.answer o.buffer
@@ -44,8 +44,8 @@ up_to_hands (Some m) b after p is fits within n d =
     λ q. let n_is : m ≡ n = cc in let d_is : take m after ≡ d = cc in record { end = m; ends = refl; bytes = cc; size = cc } in
     let from : Carries (Some m) p n d → datagram m (take m after) ≡ datagram n d =
     λ q.
-    let m_is : m ≡ q.end = same_end q.ends in
+    let m_is : m ≡ q.end = same_Some _ _ q.ends in
     let d_is : take m after ≡ d = first ∙ ap (λ (k : ℕ). take k p) m_is ∙ sym q.bytes in
     let n_is : m ≡ n = cc in cc in
     (to, from)
-up_to_hands None b after p is fits within n d = (λ q. absurd (no_datagram q), λ q. absurd (no_end q.ends))
+up_to_hands None b after p is fits within n d = (λ q. absurd (no_datagram q), λ q. absurd (none-some _ q.ends))

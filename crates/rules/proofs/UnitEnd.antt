@@ -1,4 +1,5 @@
 -- A header says one length at most, so the rule's tests find an end exactly where the joined payloads begin with a datagram.
+use Rattle.std.proofs.lemmas.Option.{none-some, same_Some}
 use Rattle.std.proofs.lemmas.Bool.{false≢true, eqb-false}
 use Rattle.std.proofs.Common.{Decides, ℕ, ◌+◌, ◌≤◌, arith, ◌≡◌, refl, ap, subst, sym, ◌∙◌, ◌↔◌, inl, inr, ⊎_elim, List, Bool, true, false, not, length, eqb, leb, eq-eqb, eqb-true, leb-false, leb-true, Option, Some, None}
 use Rattle.wire.specs.Bytes.{bits, byte_at, number_at}
@@ -10,12 +11,6 @@ use Rattle.rules.specs.UnitEnd.{BeginsWith, datagram_end, ends_at, end_within, N
 unfoldable pub endless : Option ℕ → Bool
 endless (Some n) = false
 endless None = true
-
-pub same_end : {m n : ℕ} → Some m ≡ Some n → m ≡ n
-same_end p = cc
-
-pub no_end : {n : ℕ} → None ≡ Some n → ⊥
-no_end p = let z : ◌≡◌ {A = ℕ} 0 1 = cc in omega arith
 
 -- ---- what a header says
 module _ (p : List ℕ) where
@@ -71,8 +66,8 @@ module _ (p : List ℕ) where
 
   at_begins : {e : Option ℕ} (n : ℕ) → Found e → (e ≡ Some n) ↔ BeginsWith p n
   at_begins n (begins {n = m} w) =
-      (λ q. subst (BeginsWith p) (same_end q) w, λ v. ap Some (begins_one m n w v))
-  at_begins n (none w) = (λ q. absurd (no_end q), λ v. absurd (begins_not n v w))
+      (λ q. subst (BeginsWith p) (same_Some _ _ q) w, λ v. ap Some (begins_one m n w v))
+  at_begins n (none w) = (λ q. absurd (none-some _ q), λ v. absurd (begins_not n v w))
 
   endless_tells : {e : Option ℕ} → Found e → Decides (endless e) (NoDatagram p)
   unfolding endless
@@ -97,7 +92,7 @@ module _ (p : List ℕ) where
 -- ---- with the flag, or without it
 pub unit_ends : (llc_snap : Bool) (p : List ℕ) (n : ℕ) → (unit_end llc_snap p ≡ Some n) ↔ UnitLength llc_snap p n
 unfolding unit_end UnitLength pick
-unit_ends true p n = (λ q. sym (same_end q), λ e. ap Some (sym e))
+unit_ends true p n = (λ q. sym (same_Some _ _ q), λ e. ap Some (sym e))
 unit_ends false p n = at_begins p n (found p)
 
 -- a unit is no longer than the joined payloads
