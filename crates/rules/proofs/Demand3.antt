@@ -47,7 +47,7 @@ same_section : {s t : List ℕ} → section s ≡ section t → s ≡ t
 same_section p = cc
 
 no_section : {s : List ℕ} → gap ≡ section s → ⊥
-no_section p = let z : ◌≡◌ {A = ℕ} 0 1 = cc in omega arith
+no_section p = cc
 
 tells : (c : Settings) (e : Event) → EventBytes e → (elsewhere c e ≡ true) ↔ Elsewhere c e
 unfolding EventBytes elsewhere both

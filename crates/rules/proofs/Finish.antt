@@ -12,7 +12,7 @@ abbrev pub held : Outcome → Held
 held o = record { state = o.step.state; buffer = o.buffer }
 
 pub no_datagram : {n : ℕ} {d : List ℕ} → nothing ≡ datagram n d → ⊥
-no_datagram p = let z : ◌≡◌ {A = ℕ} 0 1 = cc in omega arith
+no_datagram p = cc
 
 -- the n bytes d are the first part of p, up to the end e
 pub record Carries (e : Option ℕ) (p : List ℕ) (n : ℕ) (d : List ℕ) : Type 0 where

@@ -44,8 +44,7 @@ ends_last past v n e h =
 pub no_gap : (past : List Event) {xs : List (List ℕ)} → Ends (past ++ (gap ∷ [])) xs → 0 < length xs → ⊥
 no_gap past {xs} e some =
     let last : gap ≡ section (get_or xs (length xs - 1) []) = ends_last past gap (length xs - 1) e (omega arith) in
-    let z : ◌≡◌ {A = ℕ} 0 1 = cc in
-    omega arith
+    cc
 
 module _ (c : Settings) (b : List ℕ) where
   -- the row ends in the run xs

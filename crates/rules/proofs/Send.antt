@@ -92,7 +92,7 @@ module _ (c : Settings) (llc_snap : Bool) (n : ℕ) (u out : List ℕ) where
       go (yes q) =
           let size : Sent (length (flatten (sections c llc_snap n u))) ≡ Sent m = rw (sent_is q) at p in
           record { accepted = accepted q; size = cc; output = ap (λ (o : SendOutcome). o.output) (sent_is q) }
-      go (no q) = let other = rw (unsent_is q) at p in let z : ◌≡◌ {A = ℕ} 0 1 = cc in absurd (omega arith)
+      go (no q) = let other = rw (unsent_is q) at p in cc
 
   -- the m bytes sent-all are within the output
   pub sent_all_fits : (m : ℕ) → (sent_of c llc_snap n u out).sending ≡ Sent m → m ≤ length out

@@ -49,7 +49,7 @@ unfolding laid
 laid_length f s b h = length-paste b f (payload s) (length (payload s)) h (le_refl _)
 
 pub nowhere : {f : ℕ} → Nowhere ≡ From f → ⊥
-nowhere p = let z : ◌≡◌ {A = ℕ} 0 1 = cc in omega arith
+nowhere p = cc
 
 -- ---- what a state stands for
 module _ (c : Settings) (b : List ℕ) where
