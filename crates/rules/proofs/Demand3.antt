@@ -18,7 +18,6 @@ use Rattle.rules.specs.Demand3.{Demand3Holds, Elsewhere, Ends, HandedRight, join
 use Rattle.rules.specs.Meaning.{Good, Own}
 use Rattle.rules.proofs.Compared.{compares_last}
 use Rattle.rules.proofs.Exactly.{read_back}
-use Rattle.rules.proofs.Finish.{no_datagram}
 use Rattle.rules.proofs.Good.{good_is}
 use Rattle.rules.proofs.Read.{read, read_is, read_limits}
 use Rattle.rules.proofs.Written.{carried, clear_back, flagged_back, last_back, number_back, address_back, written_sound}
@@ -46,9 +45,6 @@ EventBytes gap = Unit
 same_section : {s t : List ℕ} → section s ≡ section t → s ≡ t
 same_section p = cc
 
-no_section : {s : List ℕ} → gap ≡ section s → ⊥
-no_section p = cc
-
 tells : (c : Settings) (e : Event) → EventBytes e → (elsewhere c e ≡ true) ↔ Elsewhere c e
 unfolding EventBytes elsewhere both
 tells c (section s) b = (
@@ -65,7 +61,7 @@ tells c (section s) b = (
       let foreign : ours c (table3 w.values) ≡ false = false_from_ne_true _ (λ p. w.other ((own_written c w.values).0 p)) in
       rw (same_section w.is, written_sound w.values w.limits, foreign),
 )
-tells c gap b = (λ p. absurd (false≢true p), λ w. absurd (no_section w.is))
+tells c gap b = (λ p. absurd (false≢true p), λ w. let z = w.is in cc)
 
 -- ---- the struck row, in words
 of_front : (e : Event) (r : List Event) → OfBytes (e ∷ r) → EventBytes e × OfBytes r
@@ -327,7 +323,7 @@ module _ (c : Settings) (b : List ℕ) where
         let words = ready_is row n d ((good_is c).0 good) (of_strike c (r ++ (e ∷ [])) given) in
         (λ p. words.0 (hands.0 p), λ w. hands.1 (words.1 w))
     exactly false bad h n d =
-        (λ p. absurd (no_datagram (sym (bad_hands bad _ e) ∙ p)), λ w. absurd (false≢true (sym bad ∙ (good_is c).1 w.run.good)))
+        (λ p. let z = sym (bad_hands bad _ e) ∙ p in cc, λ w. absurd (false≢true (sym bad ∙ (good_is c).1 w.run.good)))
 
     handed_right : HandedRight c b r e (handed_over c (after c (fresh b) r) e)
     handed_right =

@@ -3,16 +3,13 @@ use Rattle.std.proofs.lemmas.Option.{none-some, same_Some}
 use Rattle.std.proofs.Common.{ℕ, ◌≤◌, arith, ◌≡◌, ap, refl, sym, ◌∙◌, ◌↔◌, List, length, take, length-take-le, take-take, Option, Some, None}
 use Rattle.rules.specs.declared.State.TheVariants.{Idle}
 use Rattle.rules.specs.Step.{Outcome, up_to}
-use Rattle.rules.specs.Row.{Held, Handed, datagram, handed_by, nothing}
+use Rattle.rules.specs.Row.{Held, Handed, datagram, handed_by}
 
 abbrev pub handed : Outcome → Handed
 handed o = handed_by o.step.answer o.buffer
 
 abbrev pub held : Outcome → Held
 held o = record { state = o.step.state; buffer = o.buffer }
-
-pub no_datagram : {n : ℕ} {d : List ℕ} → nothing ≡ datagram n d → ⊥
-no_datagram p = cc
 
 -- the n bytes d are the first part of p, up to the end e
 pub record Carries (e : Option ℕ) (p : List ℕ) (n : ℕ) (d : List ℕ) : Type 0 where
@@ -48,4 +45,4 @@ up_to_hands (Some m) b after p is fits within n d =
     let d_is : take m after ≡ d = first ∙ ap (λ (k : ℕ). take k p) m_is ∙ sym q.bytes in
     let n_is : m ≡ n = cc in cc in
     (to, from)
-up_to_hands None b after p is fits within n d = (λ q. absurd (no_datagram q), λ q. absurd (none-some _ q.ends))
+up_to_hands None b after p is fits within n d = (λ q. cc, λ q. absurd (none-some _ q.ends))

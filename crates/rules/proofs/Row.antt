@@ -8,7 +8,6 @@ use Rattle.rules.specs.Row.{Event, section, gap, Held, fresh, next, after, nothi
 use Rattle.rules.proofs.Tested.{elsewhere, strike, Ready, RowTheorem}
 use Rattle.rules.proofs.Runs.{no_gap}
 use Rattle.rules.proofs.Made.{made_tested}
-use Rattle.rules.proofs.Finish.{no_datagram}
 use Rattle.rules.proofs.Due.{passes, Holds, started, due_holds, due_hands, due}
 
 -- ---- the struck row
@@ -58,7 +57,7 @@ module _ (c : Settings) (b : List ℕ) (good : good_settings c ≡ true) where
   unfolding handed_over
   kept_hands past h (section s) i kept n d = due_hands c b (due c b past h i s good kept) n d
   kept_hands past h gap i kept n d =
-      (λ p. absurd (no_datagram p), λ w. absurd (no_gap past w.there (omega (arith, w.run.whole))))
+      (λ p. cc, λ w. absurd (no_gap past w.there (omega (arith, w.run.whole))))
 
   -- ---- a row
   event_holds : (past : List Event) (h : Held) (e : Event) → Holds c b past h → Holds c b (past ++ strike c (e ∷ [])) (next c h e)

@@ -48,9 +48,6 @@ pub laid_length : (f : ℕ) (s b : List ℕ) → f + length (payload s) ≤ leng
 unfolding laid
 laid_length f s b h = length-paste b f (payload s) (length (payload s)) h (le_refl _)
 
-pub nowhere : {f : ℕ} → Nowhere ≡ From f → ⊥
-nowhere p = cc
-
 -- ---- what a state stands for
 module _ (c : Settings) (b : List ℕ) where
   -- the row ends in n sections of a run, and the buffer begins with their payloads, f bytes
@@ -90,10 +87,10 @@ module _ (c : Settings) (b : List ℕ) where
           let parts = both_true _ _ q in
           let is : f ≡ g = cc in
           rw (eqb-true (section_number s) e parts.0, same_key_is (key_of s) κ parts.1, is) t.gathered
-      goes_on e g κ false q t p = absurd (nowhere p)
+      goes_on e g κ false q t p = cc
 
       further : (σ : State) → Track row σ now → onward σ s ≡ From f → Gathered row now (section_number s) f (key_of s)
-      further Idle t p = absurd (nowhere p)
+      further Idle t p = cc
       further (Open e g κ) t p = goes_on e g κ (continues e κ s) refl t p
 
       from_zero : (u : Bool) → eqb (section_number s) 0 ≡ u → pick u (From 0) (onward σ s) ≡ From f
