@@ -1,9 +1,9 @@
 -- A move to the start of a buffer leaves the bytes at hand the same, and so does a read after them.
-use Rattle.std.proofs.Common.{◌≡◌, ℕ, ◌+◌, ◌-◌, ◌≤◌, Bool, true, false, List, ◌++◌, length, take, drop, sym, refl, ap, ◌∙◌, arith, length-drop, take-append-drop, length-take-le, take-take, take_at, eqb-true}
+use Rattle.std.proofs.Common.{◌≡◌, ℕ, Result, ◌+◌, ◌-◌, ◌≤◌, Bool, true, false, List, ◌++◌, length, take, drop, sym, refl, ap, ◌∙◌, arith, length-drop, take-append-drop, length-take-le, take-take, take_at, eqb-true}
 use lib.Seq.{take-append-le, drop-append-le}
 use Rattle.wire.specs.Choice.{either}
 use Rattle.wire.proofs.Choice.{never}
-use Rattle.stream.specs.declared.Input.{Input}
+use Rattle.stream.specs.declared.Failure.{Failure}
 use Rattle.stream.specs.Words.{count_of}
 use Rattle.listing.specs.declared.Window.{Window}
 use Rattle.listing.specs.Walk.{has_ended, Came, Kept}
@@ -44,7 +44,7 @@ still true e = refl
 still false e = e
 
 -- w as it was before a read, v as it is after it, and r with what it gave
-pub kept_read : {got : Input} {v r : Window} (w : Window) (ys : List ℕ) → has_ended w.rest ≡ false
+pub kept_read : {got : Result ℕ Failure} {v r : Window} (w : Window) (ys : List ℕ) → has_ended w.rest ≡ false
     → v.bytes ≡ take w.end w.bytes ++ ys → v.start ≡ w.start → v.end ≡ w.end → v.rest ≡ w.rest → Came v got r → Kept w r
 kept_read {got = got} {v = v} {r = r} w ys o q x y t k =
     let b : List ℕ = w.bytes in

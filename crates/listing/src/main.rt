@@ -2,15 +2,16 @@
 // Document 01, 'Listing'.
 #![tactic(auto)]
 
-ghost use Rattle.std.specs.Prelude.{◌≡◌, ◌+◌, ◌<◌, ◌≤◌, ◌++◌, length};
+ghost use Rattle.std.specs.Prelude.{◌≡◌, ◌+◌, ◌<◌, ◌≤◌, ◌↔◌, ◌++◌, length};
+ghost use Rattle.rules.specs.Told.{answer_told};
 ghost use Rattle.listing.specs.Text.{field, line};
 
 use arrayvec::ArrayString;
 use itoa::Buffer;
-use rules::{Answer, Settings, State};
+use rules::{Reception, Refusal, Settings, State};
 use std::io::writer;
 use std::rt::Clock;
-use stream::{Failure, Input};
+use stream::Failure;
 
 // What may follow the bytes at hand: more of the input, or nothing, since it has ended or since a read of it failed.
 #[derive(Clone, Copy)]
@@ -31,14 +32,6 @@ struct Window {
     ghost within: { end ≤ length bytes },
 }
 
-// How the listing stands: it goes on, all of the input is offered, or a write failed.
-#[derive(Clone, Copy)]
-enum Stand {
-    Going,
-    Done,
-    Failed,
-}
-
 // The first of the bytes at hand is number `offset` of the input, and the output's buffer holds whole lines.
 #[derive(Drop)]
 struct Walk {
@@ -47,7 +40,6 @@ struct Walk {
     unit: [u8; 65535],
     offset: u64,
     state: State,
-    stand: Stand,
 }
 
 // Puts a number and the byte after it.
@@ -62,9 +54,9 @@ fn put_field(lines: &mut ArrayString<65536>, n: u64, mark: char)
     lines.push(mark);
 }
 
-fn put_line(lines: &mut ArrayString<65536>, offset: u64, answer: Answer)
+fn put_line(lines: &mut ArrayString<65536>, offset: u64, answer: Result<Reception, Refusal>)
     requires { length lines.old.bytes + 63 ≤ 65536 }
-    ensures { lines.new.bytes ≡ lines.old.bytes ++ line offset answer }
+    ensures { lines.new.bytes ≡ lines.old.bytes ++ line offset (answer_told answer) }
 {
     let number = answer_numbers::number_of(answer) as u64;
     let length = answer_numbers::length_of(answer) as u64;
@@ -86,7 +78,7 @@ impl Rest {
 impl Window {
     ghost use Rattle.std.specs.Prelude.{false, true};
     ghost use Rattle.stream.specs.Words.{count_of};
-    ghost use Rattle.listing.specs.Walk.{at_hand, has_ended, whole, ready, Came, Kept};
+    ghost use Rattle.listing.specs.Walk.{at_hand, has_ended, whole, ready, Offered, Came, Kept};
 
     fn at_hand(&self) -> &[u8]
         ensures { result.now ≡ at_hand self.now }
@@ -111,17 +103,24 @@ impl Window {
         self.rest.has_ended() || self.whole()
     }
 
+    // All of the input is offered.
+    fn is_offered(&self) -> bool
+        ensures { (result ≡ true) ↔ Offered self.now }
+    {
+        self.rest.has_ended() && self.start == self.end
+    }
+
     // What a read into the room after the bytes at hand gave: more of them, the end of the input, or a failure, which ends it too.
     #[tactic(auto, unfolding(wire::specs::Choice::either))]
-    fn came(&mut self, got: Input)
+    fn came(&mut self, got: Result<usize, Failure>)
         requires ended { has_ended self.old.rest ≡ false }
         requires room { self.old.end + count_of got ≤ length self.old.bytes }
         ensures { Came self.old got self.new }
     {
         match got {
-            Input::Bytes(0) => self.rest = Rest::Closed,
-            Input::Bytes(n) => self.end += n,
-            Input::Unreadable => self.rest = Rest::Unreadable,
+            Ok(0) => self.rest = Rest::Closed,
+            Ok(n) => self.end += n,
+            Err(_) => self.rest = Rest::Unreadable,
         }
     }
 
@@ -142,12 +141,11 @@ impl Window {
 }
 
 impl Walk {
-    ghost use Rattle.std.specs.Prelude.{ℕ, List, [], false, true};
-    ghost use Rattle.rules.specs.declared.Settings.{Settings as AnySettings};
+    ghost use Rattle.std.specs.Prelude.{ℕ, List, true, IsOkUnless};
+    ghost use Rattle.stream.specs.declared.Failure.TheVariants.{Writing};
     ghost use Rattle.rules.specs.Recording.{listing_settings};
-    ghost use Rattle.listing.specs.declared.Stand.TheVariants.{Going, Done};
     ghost use Rattle.listing.specs.Lines.{listing};
-    ghost use Rattle.listing.specs.Walk.{has_ended, Left, ready, Stays, Served, due, Wrote, Gave, owed, Turned};
+    ghost use Rattle.listing.specs.Walk.{ready, Served, due, Wrote, Gave, owed, Offered, Turned};
     ghost use Rattle.listing.specs.Turns.{Fresh, Ended, Listed, failure_of};
 
     // At the start of a recording, with a fresh receiver: its listing is owed, and any recording may be left.
@@ -166,7 +164,6 @@ impl Walk {
             unit: [0; 65535],
             offset: 0,
             state: State::Idle,
-            stand: Stand::Going,
         }
     }
 
@@ -193,40 +190,27 @@ impl Walk {
     }
 
     // The one write to standard output: what it is given has to be all that the output's buffer holds.
-    fn write(&self, rt: &(impl Print + Clock), text: &[u8]) -> bool
+    fn write(&self, rt: &(impl Print + Clock), text: &[u8]) -> Result<(), Failure>
         requires { text.now ≡ self.now.output.bytes }
+        ensures { IsOkUnless result Writing }
     {
         stream::write_whole(rt, &mut writer(rt), text)
     }
 
-    // What a write of all that the output's buffer holds answered: the buffer is empty then, and a failure is not forgotten.
-    #[tactic(auto, unfolding(wire::specs::Choice::pick))]
-    fn wrote(&mut self, whole: bool)
-        ensures { Wrote self.old whole self.new }
+    // What a write of all that the output's buffer holds answered is handed on, and the buffer is empty then.
+    fn wrote(&mut self, outcome: Result<(), Failure>) -> Result<(), Failure>
+        ensures { Wrote self.old outcome result self.new }
     {
         self.output.clear();
-        if !whole {
-            self.stand = Stand::Failed;
-        }
+        outcome
     }
 
-    fn flush(&mut self, rt: &(impl Print + Clock))
-        ensures { Gave self.old self.old.output.bytes self.new }
+    fn flush(&mut self, rt: &(impl Print + Clock)) -> Result<(), Failure>
+        ensures gave { Gave self.old self.old.output.bytes self.new }
+        ensures failed { IsOkUnless result Writing }
     {
-        let whole = self.write(rt, self.pending());
-        self.wrote(whole);
-    }
-
-    // The input has ended and all of it is offered: what the output's buffer holds is all that is owed.
-    fn finish(&mut self)
-        requires ended { has_ended self.old.input.rest ≡ true }
-        requires start_value { self.old.input.start ≡ self.old.input.end }
-        ensures stays { Stays self.old self.new }
-        ensures out_value { self.new.output.bytes ≡ self.old.output.bytes }
-        ensures done { self.new.stand ≡ Done }
-        ensures rest_value { (c : AnySettings) (rest : List ℕ) → Left self.new.input rest → owed c self.new rest ≡ self.new.output.bytes }
-    {
-        self.stand = Stand::Done;
+        let outcome = self.write(rt, self.pending());
+        self.wrote(outcome)
     }
 
     // A write is due: a line may not fit, or the turn would read although there is something to write, and a read may wait.
@@ -238,62 +222,69 @@ impl Walk {
         self.output.remaining_capacity() < 63 || !ready && 0 < self.output.len()
     }
 
-    // One turn: a write, more input, the end, or an offer.
-    fn turn(&mut self, rt: &(impl std::io::Input + Print + Clock), settings: Settings)
-        requires { self.old.stand ≡ Going }
-        ensures { Turned settings self.old self.new }
+    // One turn: a write, more input, or an offer.
+    fn turn(
+        &mut self,
+        rt: &(impl std::io::Input + Print + Clock),
+        settings: Settings,
+    ) -> Result<(), Failure>
+        requires { Offered self.old.input → ⊥ }
+        ensures { Turned settings self.old result self.new }
     {
         let ready = self.input.ready();
         if self.due(ready) {
-            self.flush(rt);
-        } else if !ready {
-            self.input.refill(rt);
-        } else if self.input.start == self.input.end {
-            self.finish();
-        } else {
-            self.serve(settings);
+            return self.flush(rt);
         }
+        if !ready {
+            self.input.refill(rt);
+            return Ok(());
+        }
+        self.serve(settings);
+        Ok(())
     }
 
-    // Turn after turn, until all is offered or a write failed. A proved loop has to end, and nothing says that the input does: the
-    // turns are as many as no listing uses up.
-    fn walk_on(&mut self, rt: &(impl std::io::Input + Print + Clock), settings: Settings)
-        requires { self.old.stand ≡ Going }
-        ensures { Ended settings self.old self.new }
+    // Turn after turn, until all is offered or a write failed. A proved loop has to end, and nothing says that the input does: no
+    // listing uses up so many turns.
+    fn walk_on(
+        &mut self,
+        rt: &(impl std::io::Input + Print + Clock),
+        settings: Settings,
+    ) -> Result<(), Failure>
+        ensures { Ended settings self.old result self.new }
     {
         for _ in 0..u64::MAX {
-            if !matches!(self.stand, Stand::Going) {
+            if self.input.is_offered() {
                 break;
             }
-            self.turn(rt, settings);
+            self.turn(rt, settings)?;
         }
+        Ok(())
     }
 
     // The whole listing: the turns, and what their last lines leave in the output's buffer.
-    fn list(&mut self, rt: &(impl std::io::Input + Print + Clock))
+    fn list(&mut self, rt: &(impl std::io::Input + Print + Clock)) -> Result<(), Failure>
         requires owes { (recording : List ℕ) → owed listing_settings self.old recording ≡ listing recording }
         requires fresh { Fresh self.old }
-        ensures { Listed self.old self.new }
+        ensures { Listed self.old result self.new }
     {
-        self.walk_on(rt, recording::listing_settings());
-        self.flush(rt);
+        self.walk_on(rt, recording::listing_settings())?;
+        self.flush(rt)
     }
 
     // What has failed: the input, where both have, since nothing is read after a write that failed.
     #[tactic(auto, unfolding(crate::specs::Turns::failure_of, wire::specs::Choice::pick))]
-    fn failure(&self) -> Failure
-        ensures { result ≡ failure_of self.now }
+    fn outcome(&self, written: Result<(), Failure>) -> Result<(), Failure>
+        ensures { result ≡ failure_of self.now written }
     {
-        match (self.input.rest, self.stand) {
-            (Rest::Unreadable, _) => Failure::Reading,
-            (_, Stand::Failed) => Failure::Writing,
-            _ => Failure::Nothing,
+        match self.input.rest {
+            Rest::Unreadable => Err(Failure::Reading),
+            Rest::Open | Rest::Closed => written,
         }
     }
 }
 
 fn main(rt: HostRuntime) {
     let mut walk = Walk::new();
-    walk.list(&rt);
-    stream::say(walk.failure());
+    let written = walk.list(&rt);
+    stream::say(walk.outcome(written));
 }
