@@ -1,1 +1,2 @@
-mod Laws
+pub mod Keys
+pub mod Outcomes

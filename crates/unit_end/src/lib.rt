@@ -2,67 +2,105 @@
 // read where they lie, on either side of the cut or on both.
 #![tactic(auto)]
 
-ghost use Rattle.std.specs.Prelude.{◌≡◌, ◌++◌, ◌≤◌};
-ghost use Rattle.wire.specs.Bytes.{byte_at, number_at, Reads};
-ghost use Rattle.rules.specs.UnitEnd.{version, end_within, datagram_end, unit_end};
+ghost use Rattle.std.specs.Prelude.{◌≡◌, ◌≤◌, ◌++◌, length};
+ghost use Rattle.wire.specs.Bytes.{byte_at, number_at};
+ghost use Rattle.rules.specs.UnitEnd.{version, total_length, payload_length, end_within, datagram_end, unit_end};
 
-use rules::End;
-use wire::{both, byte_at};
+use std::marker::Model;
+use wire::byte_at;
 
-// Byte i of the two parts.
-fn byte_over(head: &[u8], tail: &[u8], i: usize) -> u8
-    ensures { Reads (byte_at (head.now ++ tail.now) i) 256 result }
-{
-    if i < head.len() {
-        return byte_at(head, i);
+// The joined payloads where they lie: those stored before, and those that have just come. A contract sees them as one list.
+#[derive(Drop)]
+struct Joined<'a> {
+    head: &'a [u8],
+    tail: &'a [u8],
+}
+
+impl<'a> Model for Joined<'a> {
+    ghost use Rattle.std.specs.Prelude.{ℕ, List, ◌++◌};
+
+    ghost Value = { List ℕ };
+
+    ghost view = { λ j. j.head.now ++ j.tail.now };
+}
+
+impl<'a> Joined<'a> {
+    fn len(&self) -> usize
+        ensures { result ≡ length self.now }
+    {
+        self.head.len() + self.tail.len()
     }
-    byte_at(tail, i - head.len())
+
+    fn byte(&self, i: usize) -> u8
+        ensures { result ≡ byte_at self.now i }
+    {
+        if i < self.head.len() {
+            return byte_at(self.head, i);
+        }
+        byte_at(self.tail, i - self.head.len())
+    }
+
+    // The number of two bytes at i, where a header has a length.
+    #[tactic(auto, unfolding(wire::specs::Bytes::number_at))]
+    fn u16(&self, i: usize) -> u16
+        requires { i ≤ 4 }
+        ensures { result ≡ number_at 2 self.now i }
+    {
+        u16::from_be_bytes([self.byte(i), self.byte(i + 1)])
+    }
+
+    // The high four bits of the first byte.
+    #[tactic(auto, unfolding(rules::specs::UnitEnd::version))]
+    fn version(&self) -> u8
+        ensures { result ≡ version self.now }
+    {
+        self.byte(0) / 16
+    }
+
+    // Of version 4: RFC 791, section 3.1.
+    #[tactic(auto, unfolding(rules::specs::UnitEnd::total_length))]
+    fn total_length(&self) -> u16
+        ensures { result ≡ total_length self.now }
+    {
+        self.u16(2)
+    }
+
+    // Of version 6, what follows its header of 40 bytes: RFC 8200, section 3.
+    #[tactic(auto, unfolding(rules::specs::UnitEnd::payload_length))]
+    fn payload_length(&self) -> u16
+        ensures { result ≡ payload_length self.now }
+    {
+        self.u16(4)
+    }
+
+    #[tactic(auto, unfolding(rules::specs::UnitEnd::datagram_end, wire::specs::Choice::pick))]
+    fn datagram_end(&self) -> Option<usize>
+        ensures { result ≡ datagram_end self.now }
+    {
+        let there = self.len();
+        match self.version() {
+            4 => end_within(there, 20, usize::from(self.total_length())),
+            6 => end_within(there, 40, 40 + usize::from(self.payload_length())),
+            _ => None,
+        }
+    }
 }
 
-// The number of two bytes at i, where a header has a length.
-fn u16_over(head: &[u8], tail: &[u8], i: usize) -> usize
-    requires { i ≤ 4 }
-    ensures { Reads (number_at 2 (head.now ++ tail.now) i) 65536 result }
-{
-    byte_over(head, tail, i) as usize * 256 + byte_over(head, tail, i + 1) as usize
-}
-
-// The high four bits of the first byte.
-fn version(head: &[u8], tail: &[u8]) -> u8
-    ensures { result ≡ version (head.now ++ tail.now) }
-{
-    byte_over(head, tail, 0) / 16
-}
-
-fn end_within(there: usize, header: usize, n: usize) -> End
+#[tactic(auto, unfolding(rules::specs::UnitEnd::end_within, wire::specs::Choice::both, wire::specs::Choice::pick))]
+fn end_within(there: usize, header: usize, n: usize) -> Option<usize>
     ensures { result ≡ end_within there header n }
 {
-    if both(header <= n, n <= there) {
-        return End::At(n);
-    }
-    End::NoEnd
-}
-
-fn datagram_end(head: &[u8], tail: &[u8]) -> End
-    ensures { result ≡ datagram_end (head.now ++ tail.now) }
-{
-    let there = head.len() + tail.len();
-    let version = version(head, tail);
-    if version == 4 {
-        return end_within(there, 20, u16_over(head, tail, 2));
-    }
-    if version == 6 {
-        return end_within(there, 40, 40 + u16_over(head, tail, 4));
-    }
-    End::NoEnd
+    (header <= n && n <= there).then_some(n)
 }
 
 // The end of the unit whose bytes are those of the two parts: all of them with LLC/SNAP, the IP datagram that they begin with without it.
-pub fn unit_end(llc_snap: bool, head: &[u8], tail: &[u8]) -> End
+#[tactic(auto, unfolding(rules::specs::UnitEnd::unit_end, wire::specs::Choice::pick))]
+pub fn unit_end(llc_snap: bool, head: &[u8], tail: &[u8]) -> Option<usize>
     ensures { result ≡ unit_end llc_snap (head.now ++ tail.now) }
 {
+    let joined = Joined { head, tail };
     if llc_snap {
-        return End::At(head.len() + tail.len());
+        return Some(joined.len());
     }
-    datagram_end(head, tail)
+    joined.datagram_end()
 }

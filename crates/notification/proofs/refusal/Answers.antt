@@ -1,34 +1,36 @@
 -- The table is decided in parts: 12 to 18, then 30 and 31, then 32 and 33.
-use Rattle.notification_rules.proofs.Sound.{platform_numbered}
-use Rattle.notification_rules.specs.Finding.{notification_form, platform_lines, refusal}
-use Rattle.rules.proofs.Check.{shared_numbered}
-use Rattle.rules.specs.Check.{shared_lines, shared_refusal}
+use Rattle.std.proofs.Common.{rules, ◌≡◌, ◌∙◌, ap, Err}
 use Rattle.rules.specs.declared.Form.{Form}
-use Rattle.wire.proofs.Choice.{first_of_here, first_of_past, was}
-use mathlib.Core.Path.{sym, ap, ◌∙◌}
+use Rattle.rules.specs.Check.{shared_lines, shared_refusal}
+use Rattle.rules.specs.Told.{refusal_number}
+use Rattle.rules.proofs.Check.{shared_numbered}
+use Rattle.section_check.proofs.Parts.{refused_by_first, left_to_rest}
+use Rattle.notification_rules.specs.Finding.{notification_form, platform_lines, loop_lines, refusal}
+use Rattle.notification_rules.proofs.Sound.{platform_numbered}
 use Rattle.notification.proofs.refusal.Goals as goal
 
-pub returns-then-number-ne0 : goal.returns-then-number-ne0
+pub returns-in_err-shared_refusal : goal.returns-in_err-shared_refusal
 unfolding shared_refusal refusal
-returns-then-number-ne0 c = let s = c.args.s.now in
-    let e = c.shared_refusal-number.ensures ∙ ap (λ (f : Form). shared_refusal f s) c.notification_form.ensures in
-    e ∙ sym (first_of_here (shared_lines notification_form s) _ (λ z. c.if-number-ne0.true (e ∙ z)))
+returns-in_err-shared_refusal c =
+    let s = c.args.s.now in
+    let e = c.in_err-shared_refusal.ensures ∙ ap (λ (f : Form). shared_refusal f s) c.notification_form.ensures in
+    let same : c.from_residual.result ≡ Err c.in_err-shared_refusal.field-0.0 = search rules in
+    ap refusal_number same ∙ refused_by_first _ (shared_lines notification_form s) _ e
 
-pub returns-then-platform-ne0 : goal.returns-then-platform-ne0
+pub returns-in_err-platform_refusal : goal.returns-in_err-platform_refusal
 unfolding shared_refusal refusal
-returns-then-platform-ne0 c = let s = c.args.s.now in
-    let e = c.shared_refusal-number.ensures ∙ ap (λ (f : Form). shared_refusal f s) c.notification_form.ensures in
-    let p = c.platform_refusal-platform.ensures in
-    p
-    ∙ sym (first_of_here (platform_lines s) _ (λ z. c.if-platform-ne0.true (p ∙ z)))
-    ∙ sym (first_of_past (shared_lines notification_form s) _ (shared_numbered notification_form s)
-    (was e c.if-number-ne0.false))
+returns-in_err-platform_refusal c =
+    let s = c.args.s.now in
+    let e = c.in_ok-shared_refusal.ensures ∙ ap (λ (f : Form). shared_refusal f s) c.notification_form.ensures in
+    let same : c.from_residual-in_err-platform_refusal.result ≡ Err c.in_err-platform_refusal.field-0.0 = search rules in
+    ap refusal_number same
+    ∙ left_to_rest _ (shared_lines notification_form s) _ (shared_numbered notification_form s) e
+    (refused_by_first _ (platform_lines s) (loop_lines s) c.in_err-platform_refusal.ensures)
 
 pub returns : goal.returns
 unfolding shared_refusal refusal
-returns c = let s = c.args.s.now in
-    let e = c.shared_refusal-number.ensures ∙ ap (λ (f : Form). shared_refusal f s) c.notification_form.ensures in
-    let p = c.platform_refusal-platform.ensures in
-    c.loops_refusal.ensures
-    ∙ sym (first_of_past (platform_lines s) _ (platform_numbered s) (was p c.if-platform-ne0.false))
-    ∙ sym (first_of_past (shared_lines notification_form s) _ (shared_numbered notification_form s) (was e c.if-number-ne0.false))
+returns c =
+    let s = c.args.s.now in
+    let e = c.in_ok-shared_refusal.ensures ∙ ap (λ (f : Form). shared_refusal f s) c.notification_form.ensures in
+    left_to_rest _ (shared_lines notification_form s) _ (shared_numbered notification_form s) e
+    (left_to_rest _ (platform_lines s) (loop_lines s) (platform_numbered s) c.in_ok-platform_refusal.ensures c.loops_refusal.ensures)
