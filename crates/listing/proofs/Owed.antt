@@ -1,5 +1,5 @@
 -- An offer that is whole at hand is the next offer of the recording, so its line is the next that is owed.
-use Rattle.std.proofs.Common.{◌≡◌, ℕ, Result, Ok, is_err, IsOkUnless, ◌+◌, ◌-◌, ◌%◌, ◌^◌, ◌<◌, ◌≤◌, Bool, true, false, not, ltb, ◌⊎◌, List, [], ◌∷◌, ◌++◌, length, take, drop, replicate, sym, refl, ap, ◌∙◌, inl, inr, true≢false, append_assoc, append-nil, arith, length-append, length-drop, length-take, length-take-le, take_all, drop-drop, take_at, take-add, take-take, drop_at, ltb-false, le-leb, leb-true}
+use Rattle.std.proofs.Common.{◌≡◌, ℕ, Result, Ok, IsOkUnless, ◌+◌, ◌-◌, ◌%◌, ◌^◌, ◌<◌, ◌≤◌, Bool, true, false, not, ltb, List, [], ◌∷◌, ◌++◌, length, take, drop, replicate, sym, refl, ap, ◌∙◌, inl, inr, true≢false, append_assoc, append-nil, arith, length-append, length-drop, length-take, length-take-le, take_all, drop-drop, take_at, take-add, take-take, drop_at, ltb-false, le-leb, leb-true}
 use lib.Seq.{take-append-add}
 use Rattle.wire.specs.Choice.{pick, both, either}
 use Rattle.wire.proofs.Choice.{either_false}
@@ -15,7 +15,7 @@ use Rattle.listing.specs.declared.Window.{Window}
 use Rattle.listing.specs.declared.Walk.{Walk}
 use Rattle.listing.specs.Text.{line}
 use Rattle.listing.specs.Lines.{lines_of, listing}
-use Rattle.listing.specs.Walk.{has_ended, at_hand, Left, whole, ready, Same, Stays, Kept, offered, outcome_of, Served, full, due, Wrote, Gave, written, owed, Offered, Unread, Waits, Turned}
+use Rattle.listing.specs.Walk.{has_ended, at_hand, Left, whole, ready, Same, Stays, Kept, offered, outcome_of, Served, full, due, Gave, written, owed, Offered, Unread, Waits, Turned}
 
 -- ---- an offer within the bytes at hand
 hand_length : (w : Window) → length (at_hand w) ≡ w.end - w.start
@@ -103,7 +103,6 @@ turned_kept {r = r} c w h n k o u z s =
       same = λ rest l. rw (nothing w h, o, z, s, u);
       failed = λ q. refl;
       told = tt;
-      stopped = λ e. absurd (true≢false (sym e));
       reads = inr (waits w h n);
       unreadable = k.unreadable;
     }
@@ -137,7 +136,6 @@ turned_flush {r = r} c w h g t =
       same = λ rest l. rw h (gave_owed c w rest g);
       failed = λ z. absurd (true≢false (sym h ∙ z));
       told = t;
-      stopped = λ e. g.out;
       reads = inl (unread w.input g.stays.input);
       unreadable = λ z. rw g.stays.input.rest z;
     }
@@ -201,7 +199,6 @@ module _
         same = line_owed h (λ e. more (ended w.input h e, e)) k;
         failed = λ q. refl;
         told = tt;
-        stopped = λ e. absurd (true≢false (sym e));
         reads = inl (record { bytes = s.bytes; end = s.end; rest = s.rest });
         unreadable = λ t. rw s.rest t;
       }

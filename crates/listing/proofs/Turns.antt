@@ -1,4 +1,5 @@
 -- What the turns give to their writes, joined, and what is owed after them are what was owed at the start.
+use Rattle.std.specs.Result.{result_and}
 use Rattle.std.proofs.Common.{◌≡◌, ℕ, Result, Ok, Err, is_err, IsOkUnless, ◌+◌, ◌-◌, ◌^◌, Bool, true, false, ◌⊎◌, List, [], ◌++◌, sym, refl, ap, ◌∙◌, inl, inr, true≢false, append_assoc, append-nil, arith}
 use Rattle.wire.specs.Choice.{pick}
 use Rattle.stream.specs.declared.Failure.{Failure}
@@ -33,22 +34,22 @@ walked_more e a t = record { read = _; text = _; turns = turned (rw e at a.turns
 pub ended_failed : {c : Settings} {w r r' : Walk} {p q : Result Unit Failure} {k : ℕ} → Walked c w k r' → Turned c r p r' → is_err p ≡ true
     → q ≡ p → Ended c w q r'
 ended_failed a t f e =
-    record { left = _; walked = a; ends = inr (inl (rw e f)); told = rw e t.told; stopped = λ z. t.stopped f }
-
--- nothing is to be written: a write of nothing changes nothing
-pub unwritten : (w : Walk) → w.output.bytes ≡ [] → Gave w [] w
-unwritten w e =
-    record {
-      given = sym e;
-      out = e;
-      stays = record { input = record { bytes = refl; start = refl; end = refl; rest = refl }; unit = refl; offset = refl; state = refl };
-    }
+    record { left = _; walked = a; ends = inr (inl (rw e f)); told = rw e t.told }
 
 -- all is offered: nothing is left
 left_nothing : (w : Window) → Offered w → Left w []
 left_nothing w a =
     let z : w.end - w.start ≡ 0 = omega (arith, a.1) in
     record { front = rw z; all = λ t. omega arith }
+
+-- the answer of two in a row: a failure of the first stays
+pub joined : (p q : Result Unit Failure) → is_err p ≡ true → result_and p q ≡ p
+joined (Ok v) q e = absurd (true≢false (sym e))
+joined (Err x) q e = refl
+
+pub joined_told : (p q : Result Unit Failure) → IsOkUnless p Writing → IsOkUnless q Writing → IsOkUnless (result_and p q) Writing
+joined_told (Ok v) q e f = f
+joined_told (Err x) q e f = e
 
 -- a failure is told
 told : (w : Walk) (q : Result Unit Failure) → failure_of w q ≡ Ok tt → is_err q ≡ true → ⊥

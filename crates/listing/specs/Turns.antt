@@ -6,8 +6,7 @@ use Rattle.stream.specs.declared.Failure.TheVariants.{Reading, Writing}
 use Rattle.rules.specs.declared.Settings.{Settings}
 use Rattle.rules.specs.Recording.{listing_settings, offers}
 use Rattle.listing.specs.Lines.{lines_of, listing}
-use Rattle.listing.specs.Walk.{is_unreadable, Left, Offered, Gave, written, owed, Waits, Turned}
-use Rattle.listing.specs.declared.Rest.TheVariants.{Open, Closed}
+use Rattle.listing.specs.Walk.{has_ended, is_unreadable, Left, Offered, Gave, written, owed, Waits, Turned}
 use Rattle.listing.specs.declared.Walk.{Walk}
 
 -- turns from w to r, with so many left of 2^64 - 1: they offer the bytes `read` of the recording and give their writes `text`, joined
@@ -22,17 +21,16 @@ pub record Walked (c : Settings) (w : Walk) (k : ℕ) (r : Walk) : Type 0 where
   pub text : List ℕ
   pub turns : Turns c w k read text r
 
--- they end where all is offered, where a write failed, and nothing is to be written then, or with no turn left
+-- they end where all is offered, where a write failed, or with no turn left
 pub record Ended (c : Settings) (w : Walk) (q : Result Unit Failure) (r : Walk) : Type 0 where
   pub left : ℕ
   pub walked : Walked c w left r
   pub ends : Offered r.input ⊎ ((is_err q ≡ true) ⊎ (left ≡ 0))
   pub told : IsOkUnless q Writing
-  pub stopped : is_err q ≡ true → r.output.bytes ≡ []
 
--- the input has not ended, and no read of it has failed
+-- the input has not ended, by a read that failed or without
 abbrev pub Fresh : Walk → Type 0
-Fresh w = w.input.rest ≡ Open
+Fresh w = has_ended w.input.rest ≡ false
 
 -- what has failed, where the writes answered q: the input, where both have, since nothing is read after a write that failed
 unfoldable pub failure_of : Walk → Result Unit Failure → Result Unit Failure

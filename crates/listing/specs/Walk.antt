@@ -1,5 +1,5 @@
 -- Where the program stands in a recording, of which it has some bytes at hand, and what it still owes the output.
-use Rattle.std.specs.Prelude.{◌≡◌, ℕ, ◌+◌, ◌-◌, ◌%◌, ◌^◌, ◌≤◌, Bool, true, false, not, ◌⊎◌, List, [], ◌++◌, length, take, drop, ◌==◌, nat_le, nat_lt, Result, Ok, is_err, IsOkUnless}
+use Rattle.std.specs.Prelude.{◌≡◌, ℕ, ◌+◌, ◌-◌, ◌%◌, ◌^◌, ◌≤◌, Bool, true, false, not, ◌⊎◌, List, [], ◌++◌, length, take, drop, ◌==◌, nat_le, nat_lt, Result, Ok, IsOkUnless}
 use Rattle.wire.specs.Choice.{pick, both, either}
 use Rattle.stream.specs.declared.Failure.{Failure}
 use Rattle.stream.specs.declared.Failure.TheVariants.{Writing}
@@ -138,14 +138,12 @@ pub record Waits (w : Walk) : Type 0 where
   pub empty : length w.output.bytes ≡ 0
 
 -- some bytes of the recording are offered, and what was owed is what the turn writes and what is owed after it, whatever is left then; only
--- a turn that writes can fail, and nothing is to be written then; a turn reads only where every line of the offers that have come is
--- written; a failed read is not forgotten
+-- a turn that writes can fail; a turn reads only where every line of the offers that have come is written; a failed read is not forgotten
 pub record Turned (c : Settings) (w : Walk) (q : Result Unit Failure) (r : Walk) : Type 0 where
   pub took : List ℕ
   pub left : (rest : List ℕ) → Left r.input rest → Left w.input (took ++ rest)
   pub same : (rest : List ℕ) → Left r.input rest → owed c w (took ++ rest) ≡ written w ++ owed c r rest
   pub failed : due w (ready w.input) ≡ false → q ≡ Ok tt
   pub told : IsOkUnless q Writing
-  pub stopped : is_err q ≡ true → r.output.bytes ≡ []
   pub reads : Unread w.input r.input ⊎ Waits w
   pub unreadable : is_unreadable w.input.rest ≡ true → is_unreadable r.input.rest ≡ true

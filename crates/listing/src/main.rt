@@ -32,41 +32,46 @@ struct Window {
     ghost within: { end ≤ length bytes },
 }
 
-// The first of the bytes at hand is number `offset` of the input, and the output's buffer holds whole lines.
+// The output's buffer, which holds whole lines.
+type Output = ArrayString<65536>;
+
+// The first of the bytes at hand is number `offset` of the input. The receiver has the unit's buffer and the state.
 #[derive(Drop)]
 struct Walk {
     input: Window,
-    output: ArrayString<65536>,
+    output: Output,
     unit: [u8; 65535],
     offset: u64,
     state: State,
 }
 
 // Puts a number and the byte after it.
-fn put_field(lines: &mut ArrayString<65536>, n: u64, mark: char)
-    requires room { length lines.old.bytes + 21 ≤ 65536 }
+#[tactic(auto, using(crate::proofs::Text::put_field))]
+fn put_field(output: &mut Output, n: u64, mark: char)
+    requires room { length output.old.bytes + 21 ≤ 65536 }
     requires ascii { mark < 128 }
-    ensures text { lines.new.bytes ≡ lines.old.bytes ++ field n mark }
-    ensures short { length lines.new.bytes ≤ length lines.old.bytes + 21 }
+    ensures text { output.new.bytes ≡ output.old.bytes ++ field n mark }
+    ensures short { length output.new.bytes ≤ length output.old.bytes + 21 }
 {
     let mut digits = Buffer::new();
-    lines.push_str(digits.format(n));
-    lines.push(mark);
+    output.push_str(digits.format(n));
+    output.push(mark);
 }
 
-fn put_line(lines: &mut ArrayString<65536>, offset: u64, answer: Result<Reception, Refusal>)
-    requires { length lines.old.bytes + 63 ≤ 65536 }
-    ensures { lines.new.bytes ≡ lines.old.bytes ++ line offset (answer_told answer) }
+#[tactic(auto, using(crate::proofs::Text::put_line))]
+fn put_line(output: &mut Output, offset: u64, answer: Result<Reception, Refusal>)
+    requires { length output.old.bytes + 63 ≤ 65536 }
+    ensures { output.new.bytes ≡ output.old.bytes ++ line offset (answer_told answer) }
 {
     let number = answer_numbers::number_of(answer) as u64;
     let length = answer_numbers::length_of(answer) as u64;
-    put_field(lines, offset, ' ');
-    put_field(lines, number, ' ');
-    put_field(lines, length, '\n');
+    put_field(output, offset, ' ');
+    put_field(output, number, ' ');
+    put_field(output, length, '\n');
 }
 
 impl Rest {
-    ghost use Rattle.listing.specs.Walk.{has_ended, is_unreadable};
+    ghost use Rattle.listing.specs.Walk.{has_ended};
 
     fn has_ended(self) -> bool
         ensures { result ≡ has_ended self }
@@ -160,7 +165,7 @@ impl Walk {
                 end: 0,
                 rest: Rest::Open,
             },
-            output: ArrayString::new(),
+            output: Output::new(),
             unit: [0; 65535],
             offset: 0,
             state: State::Idle,
@@ -169,7 +174,7 @@ impl Walk {
 
     // One offer: the receiver gets it, and its line is put into the output's buffer.
     fn serve(&mut self, settings: Settings)
-        requires input_value { ready self.old.input ≡ true }
+        requires offer { ready self.old.input ≡ true }
         requires room { length self.old.output.bytes + 63 ≤ 65536 }
         ensures { Served settings self.old self.new }
     {
@@ -219,7 +224,7 @@ impl Walk {
         ensures is { result ≡ due self.now ready }
         ensures fits { length self.now.output.bytes ≤ 65536 }
     {
-        self.output.remaining_capacity() < 63 || !ready && 0 < self.output.len()
+        self.output.remaining_capacity() < 63 || !ready && !self.output.is_empty()
     }
 
     // One turn: a write, more input, or an offer.
@@ -267,8 +272,9 @@ impl Walk {
         requires fresh { Fresh self.old }
         ensures { Listed self.old result self.new }
     {
-        self.walk_on(rt, recording::listing_settings())?;
-        self.flush(rt)
+        let walked = self.walk_on(rt, recording::listing_settings());
+        let last = self.flush(rt);
+        walked.and(last)
     }
 
     // What has failed: the input, where both have, since nothing is read after a write that failed.

@@ -1,5 +1,5 @@
 -- Each turn is one more of those that have been made.
-use Rattle.std.proofs.Common.{◌≡◌, ◌+◌, ◌-◌, ◌^◌, inl, sym, ap, is_err, true≢false, arith}
+use Rattle.std.proofs.Common.{◌≡◌, ◌+◌, ◌-◌, ◌^◌, inl, sym, ap, is_err, arith}
 use Rattle.std.proofs.lemmas.Result.{err_from_is_err_and}
 use Rattle.listing.proofs.Turns.{walked_none, walked_more, ended_failed}
 use Rattle.listing.proofs.Walk.walk_on.Goals as goal
@@ -9,13 +9,7 @@ loop-init g c = walked_none
 
 pub returns-then-is_offered : goal.returns-then-is_offered
 returns-then-is_offered g c =
-    record {
-      left = _;
-      walked = c.loop.invariant;
-      ends = inl (c.is_offered.ensures.0 c.if-is_offered.true);
-      told = tt;
-      stopped = λ e. absurd (true≢false (sym e));
-    }
+    record { left = _; walked = c.loop.invariant; ends = inl (c.is_offered.ensures.0 c.if-is_offered.true); told = tt }
 
 pub loop-preserved : goal.loop-preserved
 loop-preserved g c =
