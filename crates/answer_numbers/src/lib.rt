@@ -4,51 +4,51 @@
 ghost use Rattle.std.specs.Prelude.{◌≡◌};
 ghost use Rattle.rules.specs.Send.{sending_number, sending_length};
 ghost use Rattle.rules.specs.Step.{number_of, length_of};
+ghost use Rattle.rules.specs.Told.{answer_told, sending_told};
 
-use rules::{Answer, Sending};
+use rules::{Reception, Refusal};
 
 // The number of a receiver's answer.
-#[tactic(auto, unfolding(rules::specs::Step::number_of))]
-pub fn number_of(answer: Answer) -> u8
-    ensures { result ≡ number_of answer }
+#[tactic(auto, unfolding(rules::specs::Step::number_of, rules::specs::Told::answer_told))]
+pub fn number_of(answer: Result<Reception, Refusal>) -> u8
+    ensures { result ≡ number_of (answer_told answer) }
 {
     match answer {
-        Answer::Delivered(_) => 0,
-        Answer::Stored => 1,
-        Answer::PassedBy => 2,
-        Answer::Refused(number) => number,
+        Ok(Reception::Delivered(_)) => 0,
+        Ok(Reception::Stored) => 1,
+        Ok(Reception::PassedBy) => 2,
+        Err(refusal) => u8::from(refusal),
     }
 }
 
 // The unit length that a receiver's answer carries.
-#[tactic(auto, unfolding(rules::specs::Step::length_of))]
-pub fn length_of(answer: Answer) -> usize
-    ensures { result ≡ length_of answer }
+#[tactic(auto, unfolding(rules::specs::Step::length_of, rules::specs::Told::answer_told))]
+pub fn length_of(answer: Result<Reception, Refusal>) -> usize
+    ensures { result ≡ length_of (answer_told answer) }
 {
     match answer {
-        Answer::Delivered(filled) => filled,
-        Answer::Stored => 0,
-        Answer::PassedBy => 0,
-        Answer::Refused(_) => 0,
+        Ok(Reception::Delivered(length)) => length,
+        Ok(Reception::Stored) => 0,
+        Ok(Reception::PassedBy) => 0,
+        Err(_) => 0,
     }
 }
 
 // The number of a sender's answer.
-pub fn sending_number(sending: Sending) -> u8
-    ensures { result ≡ sending_number sending }
+#[tactic(auto, unfolding(rules::specs::Send::sending_number, rules::specs::Told::sending_told))]
+pub fn sending_number(sending: Result<usize, Refusal>) -> u8
+    ensures { result ≡ sending_number (sending_told sending) }
 {
     match sending {
-        Sending::Sent(_) => 0,
-        Sending::Unsent(number) => number,
+        Ok(_) => 0,
+        Err(unsent) => u8::from(unsent),
     }
 }
 
 // The total length that a sender's answer gives.
-pub fn sending_length(sending: Sending) -> usize
-    ensures { result ≡ sending_length sending }
+#[tactic(auto, unfolding(rules::specs::Send::sending_length, rules::specs::Told::sending_told))]
+pub fn sending_length(sending: Result<usize, Refusal>) -> usize
+    ensures { result ≡ sending_length (sending_told sending) }
 {
-    match sending {
-        Sending::Sent(length) => length,
-        Sending::Unsent(_) => 0,
-    }
+    sending.unwrap_or(0)
 }

@@ -2,22 +2,23 @@
 #![tactic(auto)]
 
 ghost use Rattle.std.specs.Prelude.{◌≡◌};
+ghost use Rattle.wire.specs.Bytes.{bytes_of};
 ghost use Rattle.caller_numbers.specs.Numbers.{address_of, settings_of, state_of, state_bytes};
 
 use rules::{Address, Key, Settings, State};
-use wire::{u16_at, u32_at};
+use wire::{u16_at, u32_at, u32_bytes};
 
-// An address in printed order, MAC_address_1 first.
+// An address in printed order, MAC_address_1 first. Six numbers and no array, as C gives them.
 pub fn address_of(mac1: u8, mac2: u8, mac3: u8, mac4: u8, mac5: u8, mac6: u8) -> Address
     ensures { result ≡ address_of mac1 mac2 mac3 mac4 mac5 mac6 }
 {
     Address {
-        mac1: mac1,
-        mac2: mac2,
-        mac3: mac3,
-        mac4: mac4,
-        mac5: mac5,
-        mac6: mac6,
+        mac1,
+        mac2,
+        mac3,
+        mac4,
+        mac5,
+        mac6,
     }
 }
 
@@ -35,12 +36,13 @@ pub fn settings_of(
 {
     Settings {
         address: address_of(mac1, mac2, mac3, mac4, mac5, mac6),
-        range: range,
-        limit: limit,
+        range,
+        limit,
     }
 }
 
-// The state that sixteen bytes mean.
+// The state that sixteen bytes mean. A function and no `From`, like the next: the state is of another crate, and these bytes are C's.
+#[tactic(auto, unfolding(crate::specs::Numbers::state_of, wire::specs::Choice::pick, rules::specs::Address::address_at))]
 pub fn state_of(state: &[u8; 16]) -> State
     ensures { result ≡ state_of state.now }
 {
@@ -60,26 +62,37 @@ pub fn state_of(state: &[u8; 16]) -> State
     }
 }
 
+// The two low bytes of a number, high byte first.
+#[tactic(auto, unfolding(wire::specs::Bytes::bytes_of))]
+fn two_bytes(x: usize) -> [u8; 2]
+    ensures { result ≡ bytes_of 2 x }
+{
+    ((x % 65536) as u16).to_be_bytes()
+}
+
 // The bytes of a state; an idle one has zeros.
+#[tactic(auto, unfolding(crate::specs::Numbers::state_bytes, wire::specs::Bytes::bytes_of), using(crate::proofs::Meaning::flag_byte))]
 pub fn state_bytes(state: State) -> [u8; 16]
     ensures { result ≡ state_bytes state }
 {
     let State::Open { next, filled, key } = state else {
         return [0; 16];
     };
-    let last = key.last;
+    let [next1, next2] = two_bytes(next);
+    let [last1, last2] = two_bytes(key.last);
+    let [filled1, filled2, filled3, filled4] = u32_bytes((filled % 4294967296) as u32);
     let address = key.address;
     [
         1,
         key.llc_snap as u8,
-        (next / 256 % 256) as u8,
-        (next % 256) as u8,
-        (last / 256 % 256) as u8,
-        (last % 256) as u8,
-        (filled / 16777216 % 256) as u8,
-        (filled / 65536 % 256) as u8,
-        (filled / 256 % 256) as u8,
-        (filled % 256) as u8,
+        next1,
+        next2,
+        last1,
+        last2,
+        filled1,
+        filled2,
+        filled3,
+        filled4,
         address.mac1,
         address.mac2,
         address.mac3,

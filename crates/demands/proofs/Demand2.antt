@@ -7,7 +7,7 @@ use mathlib.Core.List.{List, ◌++◌, flatten, map}
 use lib.ListN.{drop, length, length-map, take}
 use lib.Seq.{take_all}
 use Rattle.rules.specs.declared.Settings.{Settings}
-use Rattle.rules.specs.declared.Sending.TheVariants.{Sent}
+use Rattle.rules.specs.Answers.{Sent}
 use Rattle.rules.specs.Demand2.{Arrives, Demand2 as Carries}
 use Rattle.rules.specs.Row.{fresh, section}
 use Rattle.rules.specs.Send.{default_piece, sections, sending_length, sending_number, SendOutcome, sent_of}

@@ -7,14 +7,13 @@ use mathlib.Core.List.{List, [], ◌∷◌, ◌++◌}
 use borrow.Author.Tests.{ne_eqb}
 use Rattle.wire.specs.Choice.{pick}
 use Rattle.rules.specs.declared.Settings.{Settings}
-use Rattle.rules.specs.declared.Answer.{Answer}
+use Rattle.rules.specs.Answers.{Answer, Step, Delivered, PassedBy, Refused, Stored}
 use Rattle.rules.specs.After.{NamedByNumber}
 use Rattle.rules.specs.declared.State.TheVariants.{Idle}
 use Rattle.rules.specs.Demand3.{HandedRight, OfBytes, OwnLength}
 use Rattle.rules.specs.Meaning.{GoodState}
 use Rattle.rules.specs.Row.{after, Event, fresh, Handed, handed_by, handed_over, Held, next, section}
 use Rattle.rules.specs.Step.{gap_of, length_of, number_of}
-use Rattle.rules.specs.declared.Answer.TheVariants.{Delivered, PassedBy, Refused, Stored}
 use Rattle.rules.proofs.After.{receiver_names}
 use Rattle.rules.proofs.Demand3.{demand_3 as demand_3_holds}
 use Rattle.rules.proofs.Handed.{handed_row}
@@ -25,7 +24,8 @@ use Rattle.demands.specs.Demand3.{a_gap, a_gap_abroad, a_section, a_section_abro
 
 held : (c : Settings) (h : Held) (e : Event) (k : Held) (d : Handed) → Given c h e k d → k ≡ next c h e
 unfolding next gap_of GoodState
-held c h e k d (a_section κs a z x p q r t) = rw (t.step, t.buffer, p, q, r)
+held c h e k d (a_section κs a z x p q r t) =
+    rw (ap (λ (o : Step). o.state) t.step, t.buffer, p, q, r)
 held c h e k d (a_gap κs a z x q t) = rw t
 held c h e k d (a_section_abroad κs a z x p q r t) =
     rw (t.state, t.buffer, p, q, r, handed_on c _ (made_good c h.state (receive_given κs a).section h.buffer))
@@ -45,7 +45,8 @@ named_tells (Refused n) t b = go (ℕ_discrete n 0)
 
 handed : (c : Settings) (h : Held) (e : Event) (k : Held) (d : Handed) → Given c h e k d → d ≡ handed_over c h e
 unfolding handed_over
-handed c h e k d (a_section κs a z x p q r t) = rw (t.step, t.buffer, p, q, r)
+handed c h e k d (a_section κs a z x p q r t) =
+    rw (ap (λ (o : Step). o.answer) t.step, t.buffer, p, q, r)
 handed c h e k d (a_gap κs a z x q t) = refl
 handed c h e k d (a_section_abroad κs a z x p q r t) =
     rw (t.answer, t.unit, t.buffer, p, q, r) (named_tells _ (receiver_names c h.state _ h.buffer) _)

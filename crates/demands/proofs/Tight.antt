@@ -1,6 +1,9 @@
--- Each contract gives the result by an equation, so two results are equal to one thing.
+-- Each contract gives the result, or what it tells, by an equation, so two results are equal to one thing.
 use mathlib.Core.Path.{sym, ◌∙◌}
 use Rattle.wire.proofs.Puts.{puts_once}
+use Rattle.rules.proofs.Told.{refusal_number_same, sending_same, step_same}
+use Rattle.notification_rules.proofs.Told.{finding_same, read_same}
+use Rattle.pes_rules.proofs.Told.{told_injective}
 use Rattle.demands.specs.Tight.{Tight}
 
 pub tight : Tight
@@ -16,6 +19,7 @@ tight =
       first = λ κs a z y e d p q. p ∙ sym q;
       copy = λ κs a z y e d p q. p ∙ sym q;
       put = λ κs a z y e d p q. puts_once p q;
+      refusal_number = λ κs a z y e d p q. p ∙ sym q;
       crc_32 = λ κs a z y e d p q. p ∙ sym q;
       table_id = λ κs a z y e d p q. p ∙ sym q;
       section_syntax_indicator = λ κs a z y e d p q. p ∙ sym q;
@@ -32,20 +36,21 @@ tight =
       checked = λ κs a z y e d p q. (p.bytes ∙ sym q.bytes, p.block ∙ sym q.block, p.offset ∙ sym q.offset);
       crc_field = λ κs a z y e d p q. p.is ∙ sym q.is;
       header = λ κs a z y e d p q. p ∙ sym q;
-      shared_refusal = λ κs a z y e d p q. p ∙ sym q;
-      check = λ κs a z y e d p q. p ∙ sym q;
+      shared_refusal = λ κs a z y e d p q. refusal_number_same z y (p ∙ sym q);
+      check = λ κs a z y e d p q. refusal_number_same z y (p ∙ sym q);
       good_settings = λ κs a z y e d p q. p ∙ sym q;
       same_address = λ κs a z y e d p q. p ∙ sym q;
       unit_end = λ κs a z y e d p q. p ∙ sym q;
-      receive = λ κs a z y e d p q. (p.step ∙ sym q.step, p.buffer ∙ sym q.buffer);
+      receive = λ κs a z y e d p q. (step_same z y (p.step ∙ sym q.step), p.buffer ∙ sym q.buffer);
       gap = λ κs a z y e d p q. p ∙ sym q;
-      send = λ κs a z y e d p q. (p.sending ∙ sym q.sending, p.output ∙ sym q.output);
-      send_by_default = λ κs a z y e d p q. (p.sending ∙ sym q.sending, p.output ∙ sym q.output);
+      send = λ κs a z y e d p q. (sending_same z y (p.sending ∙ sym q.sending), p.output ∙ sym q.output);
+      send_by_default = λ κs a z y e d p q. (sending_same z y (p.sending ∙ sym q.sending), p.output ∙ sym q.output);
       listing_settings = λ κs a z y e d p q. p ∙ sym q;
       offer_length = λ κs a z y e d p q. p ∙ sym q;
-      notification_read = λ κs a z y e d p q. (p.number ∙ sym q.number, (p.part.bytes ∙ sym q.part.bytes, p.part.block ∙ sym q.part.block, p.part.offset ∙ sym q.part.offset));
-      finding = λ κs a z y e d p q. p ∙ sym q;
-      pes_read = λ κs a z y e d p q. p ∙ sym q;
+      notification_read = λ κs (device, (s, _)) z y e d p q. read_same device s z y p q;
+      finding = λ κs a z y e d p q. finding_same z y (p ∙ sym q);
+      pes_refusal_number = λ κs a z y e d p q. p ∙ sym q;
+      pes_read = λ κs a z y e d p q. told_injective z y (p ∙ sym q);
       pes_data = λ κs a z y e d p q. (p.bytes ∙ sym q.bytes, p.block ∙ sym q.block, p.offset ∙ sym q.offset);
       number_of = λ κs a z y e d p q. p ∙ sym q;
       length_of = λ κs a z y e d p q. p ∙ sym q;

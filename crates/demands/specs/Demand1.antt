@@ -1,16 +1,20 @@
 -- Demand 1 of the real contracts: every input is answered with the number of the first row that applies, in the papers' order, and a refusal
 -- hands out nothing, drops the open run and changes no other byte lent. The rows and what they mean are in rules/specs/Meaning.antt, what goes
 -- with each number in rules/specs/After.antt; of the INT and the PES reader specs/Readers.antt speaks.
-use Rattle.std.specs.Prelude.{ℕ, ◌≡◌, ◌≢◌, ◌↔◌, Bool, List, replicate}
+use Rattle.std.specs.Prelude.{ℕ, ◌≡◌, ◌≢◌, ◌↔◌, Bool, List, replicate, Ok, Err, Result as CodeResult}
 use contract.Lifetimes.{Lfts}
 use Rattle.wire.specs.Meaning.{FirstThat, Row}
 use Rattle.rules.specs.declared.Settings.{Settings}
 use Rattle.rules.specs.declared.State.{State}
 use Rattle.rules.specs.declared.State.TheVariants.{Idle}
+use Rattle.rules.specs.declared.Reception.{Reception}
+use Rattle.rules.specs.declared.Reception.TheVariants.{Delivered, Stored, PassedBy}
+use Rattle.rules.specs.declared.Refusal.{Refusal}
 use Rattle.rules.specs.After.{NamedByNumber, ReadAlike, ReceiverAfter}
 use Rattle.rules.specs.Meaning.{check_rows, GoodState, receiver_rows, sender_rows}
 use Rattle.rules.specs.Send.{sending_length, sending_number}
 use Rattle.rules.specs.Step.{length_of, number_of}
+use Rattle.rules.specs.Told.{answer_told, number, refusal_number, sending_told}
 use Rattle.caller_numbers.specs.Numbers.{state_bytes, state_of}
 use Rattle.demands.specs.Abroad.{default_gave, default_given, gap_gave, receive_gave, receive_given, ReceiveGiven, send_gave, send_given, size_given}
 use Rattle.demands.specs.Allowed.{Allowed, Args, Exit, Result}
@@ -43,14 +47,24 @@ pub record Sends (c : Settings) (llc_snap : Bool) (size : ℕ) (u out : List ℕ
   pub number : Numbered n (sender_rows c llc_snap size u out)
   pub refused : n ≢ 0 → (total ≡ 0) × (output ≡ out)
 
+-- the code's answer has one name for each number
+pub record NamedInCode (a : CodeResult Reception Refusal) : Type 0 where
+  pub refused : number_of (answer_told a) ≢ 2 → number_of (answer_told a) ≢ 1 → number_of (answer_told a) ≢ 0
+      → (r : Refusal) × (a ≡ Err r) × (number r ≡ number_of (answer_told a))
+  pub passed : number_of (answer_told a) ≡ 2 → a ≡ Ok PassedBy
+  pub kept : number_of (answer_told a) ≡ 1 → a ≡ Ok Stored
+  pub delivered : number_of (answer_told a) ≡ 0 → a ≡ Ok (Delivered (length_of (answer_told a)))
+
 pub record Demand1 : Type 0 where
   pub check : Allowed contracts.check
-      (λ κs (s, _) z e. Numbered z (check_rows s.now))
+      (λ κs (s, _) z e. Numbered (refusal_number z) (check_rows s.now))
   pub receive : Allowed contracts.receive
       (λ κs (settings, (state, (s, (buffer, _)))) z (_, (_, (_, (after, _)))).
-      Steps settings state s.now buffer.now (number_of z.answer) (length_of z.answer) z.state after.now)
+      Steps settings state s.now buffer.now (number_of (answer_told z.answer)) (length_of (answer_told z.answer)) z.state after.now)
   pub named : Allowed contracts.receive
-      (λ κs a z e. NamedByNumber z.answer)
+      (λ κs a z e. NamedByNumber (answer_told z.answer))
+  pub names : Allowed contracts.receive
+      (λ κs a z e. NamedInCode z.answer)
   -- one call reads the buffer's length and, at number L without LLC/SNAP, what it holds before f; by nothing else of it is it answered
   pub alike : (κs : Lfts 2) (a b : Args contracts.receive κs) (z y : Result contracts.receive κs) (e d : Exit contracts.receive κs)
       → (contracts.receive).Learnt κs a z e → (contracts.receive).Learnt κs b y d → CalledAlike (receive_args κs a) (receive_args κs b) → z ≡ y
@@ -59,11 +73,11 @@ pub record Demand1 : Type 0 where
       (λ κs a z e. z ≡ Idle)
   pub send : Allowed contracts.send
       (λ κs (settings, (llc_snap, (size, (unit, (out, _))))) z (_, (_, (_, (_, (after, _))))).
-      Sends settings llc_snap size unit.now out.now (sending_number z) (sending_length z) after.now)
+      Sends settings llc_snap size unit.now out.now (sending_number (sending_told z)) (sending_length (sending_told z)) after.now)
   -- where no piece size is given, it is 1,008
   pub send_by_default : Allowed contracts.send_by_default
       (λ κs (settings, (llc_snap, (unit, (out, _)))) z (_, (_, (_, (after, _)))).
-      Sends settings llc_snap 1008 unit.now out.now (sending_number z) (sending_length z) after.now)
+      Sends settings llc_snap 1008 unit.now out.now (sending_number (sending_told z)) (sending_length (sending_told z)) after.now)
   -- the exported functions: the state is given and handed back as bytes; those handed back mean the state after
   pub fossknut_check : Allowed contracts.fossknut_check
       (λ κs (s, _) z e. Numbered z (check_rows s.now))

@@ -9,6 +9,7 @@ use Rattle.rules.specs.Recording.{offers}
 use Rattle.rules.specs.Row.{datagram, fresh, Handed, Held, nothing, section}
 use Rattle.rules.specs.Send.{sending_length, sending_number}
 use Rattle.rules.specs.Sound.{Sound, table3}
+use Rattle.rules.specs.Told.{refusal_number, sending_told}
 use Rattle.demands.specs.Abroad.{default_gave, default_given, send_gave, send_given, size_given}
 use Rattle.demands.specs.Allowed.{Allowed}
 use Rattle.demands.specs.Functions as contracts
@@ -29,14 +30,14 @@ pub record SentRight (c : Settings) (llc_snap : Bool) (size : ℕ) (u out : List
 pub record Demand2 : Type 0 where
   -- none of 12 to 19 and 24 applies exactly to what table 3 writes
   pub check : Allowed contracts.check
-      (λ κs (s, _) z e. Bytes s.now → (z ≡ 0) ↔ Sound s.now)
+      (λ κs (s, _) z e. Bytes s.now → (refusal_number z ≡ 0) ↔ Sound s.now)
   pub send : Allowed contracts.send
-      (λ κs (settings, (llc_snap, (size, (unit, (out, _))))) z (_, (_, (_, (_, (after, _))))). sending_number z ≡ 0
-      → SentRight settings llc_snap size unit.now out.now (sending_length z) after.now)
+      (λ κs (settings, (llc_snap, (size, (unit, (out, _))))) z (_, (_, (_, (_, (after, _))))). sending_number (sending_told z) ≡ 0
+      → SentRight settings llc_snap size unit.now out.now (sending_length (sending_told z)) after.now)
   -- where no piece size is given, it is 1,008
   pub send_by_default : Allowed contracts.send_by_default
-      (λ κs (settings, (llc_snap, (unit, (out, _)))) z (_, (_, (_, (after, _)))). sending_number z ≡ 0
-      → SentRight settings llc_snap 1008 unit.now out.now (sending_length z) after.now)
+      (λ κs (settings, (llc_snap, (unit, (out, _)))) z (_, (_, (_, (after, _)))). sending_number (sending_told z) ≡ 0
+      → SentRight settings llc_snap 1008 unit.now out.now (sending_length (sending_told z)) after.now)
   -- the exported functions
   pub fossknut_check : Allowed contracts.fossknut_check
       (λ κs (s, _) z e. Bytes s.now → (z ≡ 0) ↔ Sound s.now)

@@ -7,6 +7,7 @@ use Rattle.rules.specs.declared.Settings.{Settings}
 use Rattle.rules.specs.declared.State.{State}
 use Rattle.rules.specs.Demand3.{CanBeStruck, HandedRight, OfBytes, Once, OnlyOne, OwnLength}
 use Rattle.rules.specs.Row.{datagram, Event, fresh, gap, Handed, handed_by, Held, nothing, section}
+use Rattle.rules.specs.Told.{answer_told}
 use Rattle.caller_numbers.specs.Numbers.{state_of}
 use Rattle.demands.specs.Abroad.{gap_gave, gap_given, receive_gave, receive_given}
 use Rattle.demands.specs.Allowed.{Args, Exit, Result}
@@ -35,7 +36,7 @@ pub data Given (c : Settings) (h : Held) : Event → Held → Handed → Type 0 
       → (receive_args κs a).settings ≡ c → (receive_args κs a).state ≡ h.state → (receive_args κs a).buffer ≡ h.buffer
       → (contracts.receive).Learnt κs a z e
       → Given c h (section (receive_args κs a).section) (record { state = z.state; buffer = buffer_after κs e })
-      (handed_by z.answer (buffer_after κs e))
+      (handed_by (answer_told z.answer) (buffer_after κs e))
   a_gap : (κs : Lfts 0) (a : Args contracts.gap κs) (z : Result contracts.gap κs) (e : Exit contracts.gap κs)
       → a.0 ≡ h.state → (contracts.gap).Learnt κs a z e → Given c h gap (record { state = z; buffer = h.buffer }) nothing
   -- by a foreign caller, who has the state as bytes

@@ -1,6 +1,7 @@
 -- The real contract of each open function, under one name: its parameters, its result, and what a caller learns.
 use Rattle.demands.specs.Allowed.{Function, function}
 use Rattle.wire.proofs as wire
+use Rattle.rules.proofs as rules
 use Rattle.crc.proofs as crc
 use Rattle.section_fields.proofs as section_fields
 use Rattle.section_header.proofs as section_header
@@ -11,6 +12,7 @@ use Rattle.receiver.proofs as receiver
 use Rattle.sender.proofs as sender
 use Rattle.recording.proofs as recording
 use Rattle.notification.proofs as notification
+use Rattle.pes_rules.proofs as pes_rules
 use Rattle.pes.proofs as pes
 use Rattle.answer_numbers.proofs as answer_numbers
 use Rattle.notification_numbers.proofs as notification_numbers
@@ -46,6 +48,9 @@ either = function wire.either.Kinds.ps wire.either.Kinds.r wire.either.Reads.Lea
 
 abbrev pub first : Function
 first = function wire.first.Kinds.ps wire.first.Kinds.r wire.first.Reads.Learnt
+
+abbrev pub refusal_number : Function
+refusal_number = function rules.U8FromRefusal.from.Kinds.ps rules.U8FromRefusal.from.Kinds.r rules.U8FromRefusal.from.Reads.Learnt
 
 abbrev pub crc_32 : Function
 crc_32 = function crc.crc_32.Kinds.ps crc.crc_32.Kinds.r crc.crc_32.Reads.Learnt
@@ -133,6 +138,9 @@ notification_read = function notification.read.Kinds.ps notification.read.Kinds.
 
 abbrev pub finding : Function
 finding = function notification.finding.Kinds.ps notification.finding.Kinds.r notification.finding.Reads.Learnt
+
+abbrev pub pes_refusal_number : Function
+pes_refusal_number = function pes_rules.U8FromRefusal.from.Kinds.ps pes_rules.U8FromRefusal.from.Kinds.r pes_rules.U8FromRefusal.from.Reads.Learnt
 
 abbrev pub pes_read : Function
 pes_read = function pes.read.Kinds.ps pes.read.Kinds.r pes.read.Reads.Learnt

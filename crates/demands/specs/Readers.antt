@@ -10,8 +10,10 @@ use Rattle.rules.specs.Address.{address_bytes}
 use Rattle.notification_rules.specs.Format.{Answer, answer_to, Conforms, found_nobody, Notification, notification_written, refused_with, Written}
 use Rattle.notification_rules.specs.Meaning.{notification_rows}
 use Rattle.notification_rules.specs.Finding.{finding_number}
-use Rattle.pes_rules.specs.declared.Reading.{Reading}
+use Rattle.notification_rules.specs.Told.{finding_told, Handed, read_number}
+use Rattle.pes_rules.specs.Reading.{Reading}
 use Rattle.pes_rules.specs.Meaning.{packet_rows}
+use Rattle.pes_rules.specs.Told.{told}
 use Rattle.pes_rules.specs.Written.{Conforms as CanWrite, data_part_of, packet_of, reading_of, Values, Written as WrittenPacket, zeros}
 use Rattle.demands.specs.Abroad.{notification_given, offset_gave, packet_gave, PacketNumbers}
 use Rattle.demands.specs.Allowed.{Allowed}
@@ -56,16 +58,16 @@ packet_numbers r p =
 -- ---- what the contracts of the code allow
 pub record Readers : Type 0 where
   pub finding : Allowed contracts.finding
-      (λ κs (device, (s, _)) z e. Findings device s.now (finding_number z) (λ x. z ≡ x.finding))
-  -- the number is written through `answer`; z is that part of the section, bytes and offset
+      (λ κs (device, (s, _)) z e. Findings device s.now (finding_number (finding_told z)) (λ x. finding_told z ≡ x.finding))
+  -- z hands out that part of the section, bytes and offset
   pub notification_read : Allowed contracts.notification_read
-      (λ κs (device, (s, _)) z (_, (_, (answer, _))).
-      Findings device s.now answer.now (λ x. (answer.now ≡ x.number) × Is s.ref_ptr x.given z))
+      (λ κs (device, (s, _)) z e.
+      Findings device s.now (read_number z) (λ x. (read_number z ≡ x.number) × Handed s.ref_ptr x.given z))
   pub fossknut_notification : Allowed contracts.fossknut_notification
       (λ κs a z e. let given = notification_given κs a in
       Findings given.device given.section z (λ x. (z ≡ x.number) × (offset_gave κs e ≡ x.given.offset)))
   pub pes_read : Allowed contracts.pes_read
-      (λ κs (packet, _) z e. Packets packet.now z.answer (λ r p. z ≡ r))
+      (λ κs (packet, _) z e. Packets packet.now (told z).answer (λ r p. told z ≡ r))
   -- z is the data part of the packet, bytes and offset; the number is not told, and is the rows' own
   pub pes_data : Allowed contracts.pes_data
       (λ κs (packet, _) z e. (k : ℕ) × Packets packet.now k (λ r p. Is packet.ref_ptr p z))

@@ -1,16 +1,17 @@
--- Number, length and state are read off an answer, and the answer is the outcome's.
-use Prim.Native.Nat.{ℕ}
-use mathlib.Core.Path.{◌≡◌, ap, ◌∙◌}
-use mathlib.Core.List.{List}
-use Rattle.rules.specs.declared.Sending.{Sending}
-use Rattle.rules.specs.declared.Step.{Step}
+-- Number, length and state are read off what the code's answer tells, and that is the outcome's.
+use Rattle.std.specs.Prelude.{ℕ, ◌≡◌, List, Result}
+use mathlib.Core.Path.{ap, ◌∙◌}
+use Rattle.rules.specs.declared.Refusal.{Refusal}
+use Rattle.rules.specs.declared.Step.{Step as CodeStep}
+use Rattle.rules.specs.Answers.{Step}
 use Rattle.rules.specs.Send.{SendOutcome, sending_number, sending_length, Sends}
 use Rattle.rules.specs.Step.{Outcome, Does, number_of, length_of}
+use Rattle.rules.specs.Told.{answer_told, sending_told}
 use Rattle.caller_numbers.specs.Numbers.{state_bytes}
 use Rattle.fossknut.specs.Told.{ReceiveTold, SendTold}
 
-pub receive_told : {r l : ℕ} {x b : List ℕ} (o : Outcome) (t : Step)
-    → Does o t b → r ≡ number_of t.answer → l ≡ length_of t.answer → x ≡ state_bytes t.state → ReceiveTold o r l x b
+pub receive_told : {r l : ℕ} {x b : List ℕ} (o : Outcome) (t : CodeStep)
+    → Does o t b → r ≡ number_of (answer_told t.answer) → l ≡ length_of (answer_told t.answer) → x ≡ state_bytes t.state → ReceiveTold o r l x b
 receive_told o t d answer unit state =
     record {
       answer = answer ∙ ap (λ (t : Step). number_of t.answer) d.step;
@@ -19,7 +20,7 @@ receive_told o t d answer unit state =
       buffer = d.buffer;
     }
 
-pub send_told : {o : SendOutcome} {sending : Sending} {r l : ℕ} {out : List ℕ} → Sends o sending out
-    → r ≡ sending_number sending → l ≡ sending_length sending → SendTold o r l out
+pub send_told : {o : SendOutcome} {sending : Result ℕ Refusal} {r l : ℕ} {out : List ℕ} → Sends o sending out
+    → r ≡ sending_number (sending_told sending) → l ≡ sending_length (sending_told sending) → SendTold o r l out
 send_told s number length =
     record { number = number ∙ ap sending_number s.sending; length = length ∙ ap sending_length s.sending; output = s.output }

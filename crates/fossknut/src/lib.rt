@@ -22,10 +22,14 @@ pub fn fossknut_crc_32(s: &[u8]) -> u32
 }
 
 // The first of 12 to 19 and 24, which stands at 15's place, that applies to a datagram section, else 0.
+#[tactic(auto, unfolding(rules::specs::Told::refusal_number))]
 pub fn fossknut_check(s: &[u8]) -> u8
     ensures { result ≡ check s.now }
 {
-    section_check::check(s)
+    match section_check::check(s) {
+        Ok(()) => 0,
+        Err(refusal) => u8::from(refusal),
+    }
 }
 
 // One step of the receiver, its own address in printed order. Answers the paper's number; `length` gets the unit length.
@@ -61,11 +65,9 @@ pub fn fossknut_receive(
 {
     let settings = settings_of(mac1, mac2, mac3, mac4, mac5, mac6, range, limit);
     let step = receiver::receive(settings, state_of(state), s, buffer);
-    let answer = step.answer;
-    let after = step.state;
-    *state = state_bytes(after);
-    *length = answer_numbers::length_of(answer);
-    answer_numbers::number_of(answer)
+    *state = state_bytes(step.state);
+    *length = answer_numbers::length_of(step.answer);
+    answer_numbers::number_of(step.answer)
 }
 
 // A gap notice: the bytes become those of the idle state.
@@ -144,6 +146,7 @@ pub fn fossknut_notification(
 }
 
 // The PES data packet reader: the answer; flags, values, the data's offset in the packet and its length go through the numbers lent.
+#[tactic(auto, using(pes_rules::proofs::Told::packet_within), unfolding(caller_numbers::specs::Numbers::flag_number, wire::specs::Choice::pick))]
 pub fn fossknut_pes(
     packet: &[u8],
     extended: &mut u8,
@@ -163,12 +166,24 @@ pub fn fossknut_pes(
         offset.new
         length.new }
 {
-    let reading = pes::read(packet);
-    *extended = reading.extended as u8;
-    *rated = reading.rated as u8;
-    *extension = reading.extension as usize;
-    *rate = reading.rate as usize;
-    *offset = reading.offset;
-    *length = reading.end - reading.offset;
-    reading.answer
+    match pes::read(packet) {
+        Ok(p) => {
+            *extended = p.extension.is_some() as u8;
+            *rated = p.rate.is_some() as u8;
+            *extension = p.extension.unwrap_or(0) as usize;
+            *rate = p.rate.unwrap_or(0) as usize;
+            *offset = p.offset;
+            *length = p.end - p.offset;
+            5
+        }
+        Err(refusal) => {
+            *extended = 0;
+            *rated = 0;
+            *extension = 0;
+            *rate = 0;
+            *offset = 0;
+            *length = 0;
+            u8::from(refusal)
+        }
+    }
 }

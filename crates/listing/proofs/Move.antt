@@ -1,66 +1,27 @@
 -- A move to the start of a buffer leaves the bytes at hand the same, and so does a read after them.
-use Rattle.std.proofs.Common.{◌≡◌, ℕ, ◌+◌, ◌-◌, ◌<◌, ◌≤◌, Bool, true, false, List, ◌++◌, length, get_or, take, drop, set, sym, refl, ap, ◌∙◌, arith, length-drop, take-append-drop, length-take-le, get_or-drop, take-take, take_at, get_or-append-add, eqb-true}
+use Rattle.std.proofs.Common.{◌≡◌, ℕ, Result, ◌+◌, ◌-◌, ◌≤◌, Bool, true, false, List, ◌++◌, length, take, drop, sym, refl, ap, ◌∙◌, arith, length-drop, take-append-drop, length-take-le, take-take, take_at, eqb-true}
 use lib.Seq.{take-append-le, drop-append-le}
 use Rattle.wire.specs.Choice.{either}
 use Rattle.wire.proofs.Choice.{never}
-use Rattle.wire.proofs.Lists.{over_step}
-use Rattle.stream.specs.declared.Input.{Input}
+use Rattle.stream.specs.declared.Failure.{Failure}
 use Rattle.stream.specs.Words.{count_of}
-use Rattle.listing.specs.declared.Walk.{Walk}
-use Rattle.listing.specs.Walk.{Fine, Came, Kept}
+use Rattle.listing.specs.declared.Window.{Window}
+use Rattle.listing.specs.Walk.{has_ended, Came, Kept}
 
--- one byte more is moved
-pub move_step : (b : List ℕ) (f i : ℕ) → f + i < length b
-    → set (take i (drop f b) ++ drop i b) i (get_or (take i (drop f b) ++ drop i b) (f + i) 0)
-    ≡ take (i + 1) (drop f b) ++ drop (i + 1) b
-move_step b f i h =
-    let s : List ℕ = drop f b in
-    let n : length s ≡ length b - f = length-drop f b in
-    let k : length (take i s) ≡ i = length-take-le i s (omega arith) in
-    let x : f + i ≡ length (take i s) + f = omega arith in
-    let y : i + f ≡ f + i = omega arith in
-    let e : get_or (take i s ++ drop i b) (f + i) 0 ≡ get_or s i 0 =
-    ap (λ (j : ℕ). get_or (take i s ++ drop i b) j 0) x
-    ∙ get_or-append-add (take i s) (drop i b) f 0
-    ∙ get_or-drop i b f 0
-    ∙ ap (λ (j : ℕ). get_or b j 0) y
-    ∙ sym (get_or-drop f b i 0) in
-    ap (set (take i s ++ drop i b) i) e ∙ over_step s b i (omega arith) (omega arith)
-
--- the bytes at hand moved to the start
-abbrev moved : Walk → Walk
-moved w =
-    record {
-      start = 0;
-      end = w.end - w.start;
-      offset = w.offset;
-      out = w.out;
-      over = w.over;
-      done = w.done;
-      unreadable = w.unreadable;
-      failed = w.failed;
-      state = w.state;
-    }
-
-pub kept_move : (w : Walk) (b d : List ℕ) → Fine w (length b)
-    → d ≡ take (w.end - w.start) (drop w.start b) ++ drop (w.end - w.start) b → Kept w b (moved w) d
-kept_move w b d f q =
+pub kept_move : {r : Window} (w : Window) (after : List ℕ) → r.bytes ≡ take (w.end - w.start) (drop w.start w.bytes) ++ after
+    → r.start ≡ 0 → r.end ≡ w.end - w.start → r.rest ≡ w.rest → Kept w r
+kept_move {r = r} w after q x y t =
     let n : ℕ = w.end - w.start in
-    let z : n - 0 ≡ n = omega arith in
-    let hand : List ℕ = take n (drop w.start b) in
-    let l : length hand ≡ n = length-take-le n (drop w.start b) (omega (arith, f.within, length-drop w.start b)) in
+    let z : r.end - r.start ≡ n = omega (arith, x, y) in
+    let hand : List ℕ = take n (drop w.start w.bytes) in
+    let l : length hand ≡ n = length-take-le n (drop w.start w.bytes) (omega (arith, w.within, length-drop w.start w.bytes)) in
     record {
       left = λ rest p. record {
-        front = rw z at p.front ∙ ap (take n) q ∙ take_at hand (drop n b) n l;
-        all = λ t. omega (arith, p.all t);
+        front = rw (z, x) at p.front ∙ ap (take n) q ∙ take_at hand after n l;
+        all = λ e. omega (arith, p.all (rw t e), z);
       };
-      over = λ t. z;
-      unreadable = λ t. t;
-      offset = refl;
-      out = refl;
-      done = refl;
-      failed = refl;
-      state = refl;
+      ended = λ e. z;
+      unreadable = λ e. rw t e;
     }
 
 -- what stands before e is the same, whatever is read after it
@@ -82,28 +43,27 @@ unfolding either
 still true e = refl
 still false e = e
 
-pub kept_read : {got : Input} {r : Walk} (w : Walk) (b ys : List ℕ) → Fine w (length b) → w.over ≡ false → Came w got r
-    → Kept w b r (take w.end b ++ ys)
-kept_read {got = got} {r = r} w b ys f o k =
+-- w as it was before a read, v as it is after it, and r with what it gave
+pub kept_read : {got : Result ℕ Failure} {v r : Window} (w : Window) (ys : List ℕ) → has_ended w.rest ≡ false
+    → v.bytes ≡ take w.end w.bytes ++ ys → v.start ≡ w.start → v.end ≡ w.end → v.rest ≡ w.rest → Came v got r → Kept w r
+kept_read {got = got} {v = v} {r = r} w ys o q x y t k =
+    let b : List ℕ = w.bytes in
     let s : ℕ = w.start in
     let e : ℕ = w.end in
     let n : ℕ = count_of got in
-    let h : e - s ≤ e + n - s = omega (arith, f.order) in
+    let h : e - s ≤ e + n - s = omega (arith, w.order) in
+    let f : r.start ≡ s = k.start ∙ x in
+    let g : r.end ≡ e + n = k.end ∙ rw y in
     record {
       left = λ rest p. record {
         front = sym (take-take (e - s) (e + n - s) rest h)
-            ∙ ap (take (e - s)) (rw (k.start, k.end) at p.front)
+            ∙ ap (take (e - s)) (rw (f, g, k.bytes, q) at p.front)
             ∙ take-take (e - s) (e + n - s) (drop s (take e b ++ ys)) h
-            ∙ hand_read b ys s e f.order f.within;
+            ∙ hand_read b ys s e w.order w.within;
         all = λ z. absurd (never (sym o ∙ z));
       };
-      over = λ z. omega (arith, eqb-true n 0 (sym k.over ∙ z), k.start, k.end);
-      unreadable = λ z. k.unreadable ∙ still _ z;
-      offset = k.offset;
-      out = k.out;
-      done = k.done;
-      failed = k.failed;
-      state = k.state;
+      ended = λ z. omega (arith, eqb-true n 0 (sym k.ended ∙ z), f, g);
+      unreadable = λ z. k.unreadable ∙ still _ (rw t z);
     }
 
 pub read_within : (b : List ℕ) (e n : ℕ) → e ≤ length b → n ≤ length (take (length b - e) (drop e b)) → e + n ≤ length b

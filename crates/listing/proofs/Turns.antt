@@ -1,93 +1,111 @@
 -- What the turns give to their writes, joined, and what is owed after them are what was owed at the start.
-use Rattle.std.proofs.Common.{◌≡◌, ℕ, ◌+◌, ◌-◌, ◌^◌, Bool, true, false, ◌⊎◌, List, [], ◌++◌, sym, refl, ap, ◌∙◌, inl, inr, true≢false, append_assoc, append-nil, arith}
+use Rattle.std.proofs.Common.{◌≡◌, ℕ, Result, Ok, Err, is_err, IsOkUnless, ◌+◌, ◌-◌, ◌^◌, Bool, true, false, ◌⊎◌, List, [], ◌++◌, sym, refl, ap, ◌∙◌, inl, inr, true≢false, append_assoc, append-nil, arith}
 use Rattle.wire.specs.Choice.{pick}
-use Rattle.stream.specs.declared.Failure.TheVariants.{Nothing, Reading, Writing}
+use Rattle.stream.specs.declared.Failure.{Failure}
+use Rattle.stream.specs.declared.Failure.TheVariants.{Reading, Writing}
 use Rattle.rules.specs.declared.Settings.{Settings}
 use Rattle.rules.specs.Recording.{listing_settings, offers}
+use Rattle.listing.specs.declared.Window.{Window}
 use Rattle.listing.specs.declared.Walk.{Walk}
 use Rattle.listing.specs.Lines.{lines_of, listing}
-use Rattle.listing.specs.Walk.{Left, Gave, Offered, written, owed, Waits, Turned}
+use Rattle.listing.specs.Walk.{is_unreadable, Left, Gave, Offered, written, owed, Waits, Turned}
 use Rattle.listing.specs.Turns.{Turns, begun, turned, Walked, Ended, Listed, Fresh, failure_of}
-use Rattle.listing.proofs.Owed.{left_stays, offered_stays, gave_owed, owed_waits, owed_end}
+use Rattle.listing.proofs.Owed.{left_stays, same_offered, gave_owed, owed_waits, owed_end}
 
-pub turns_owed : {c : Settings} {w : Walk} {b o u : List ℕ} {k : ℕ} {read text : List ℕ} {r : Walk} {b' o' u' : List ℕ} → Turns c w b o u k read text r b' o' u'
-    → (rest : List ℕ) → Left r b' rest → owed c w o u (read ++ rest) ≡ text ++ owed c r o' u' rest
+pub turns_owed : {c : Settings} {w : Walk} {k : ℕ} {read text : List ℕ} {r : Walk} → Turns c w k read text r
+    → (rest : List ℕ) → Left r.input rest → owed c w (read ++ rest) ≡ text ++ owed c r rest
 turns_owed begun rest l = refl
-turns_owed {c = c} {w = w} {o = o} {u = u} (turned {read = read} {text = text} {b' = b'} {o' = o'} {r = r} before t) rest l =
-    ap (λ (x : List ℕ). owed c w o u x) (append_assoc read t.took rest)
+turns_owed {c = c} {w = w} (turned {read = read} {text = text} {r = r} before t) rest l =
+    ap (λ (x : List ℕ). owed c w x) (append_assoc read t.took rest)
     ∙ turns_owed before (t.took ++ rest) (t.left rest l)
     ∙ ap (λ (x : List ℕ). text ++ x) (t.same rest l)
-    ∙ sym (append_assoc text (written r b' o') _)
+    ∙ sym (append_assoc text (written r) _)
 
 -- no turn is made yet
-pub walked_none : {c : Settings} {w : Walk} {b o u : List ℕ} → w.done ≡ false → Walked c w b o u (2 ^ 64 - 1) w b o u
-walked_none f = record { read = []; text = []; turns = begun; done = λ t. absurd (true≢false (sym t ∙ f)) }
+pub walked_none : {c : Settings} {w : Walk} → Walked c w (2 ^ 64 - 1) w
+walked_none = record { read = []; text = []; turns = begun }
 
 -- one turn more
-pub walked_more : {c : Settings} {w r r' : Walk} {b o u b' o' u' b'' o'' u'' : List ℕ} {k j : ℕ} → k ≡ j + 1 → Walked c w b o u k r b' o' u'
-    → Turned c r b' o' u' r' b'' o'' u'' → Walked c w b o u j r' b'' o'' u''
-walked_more e a t = record { read = _; text = _; turns = turned (rw e at a.turns) t; done = t.done }
+pub walked_more : {c : Settings} {w r r' : Walk} {q : Result Unit Failure} {k j : ℕ} → k ≡ j + 1 → Walked c w k r → Turned c r q r' → Walked c w j r'
+walked_more e a t = record { read = _; text = _; turns = turned (rw e at a.turns) t }
+
+-- a write failed
+pub ended_failed : {c : Settings} {w r r' : Walk} {p q : Result Unit Failure} {k : ℕ} → Walked c w k r' → Turned c r p r' → is_err p ≡ true
+    → q ≡ p → Ended c w q r'
+ended_failed a t f e =
+    record { left = _; walked = a; ends = inr (inl (rw e f)); told = rw e t.told; stopped = λ z. t.stopped f }
+
+-- nothing is to be written: a write of nothing changes nothing
+pub unwritten : (w : Walk) → w.output.bytes ≡ [] → Gave w [] w
+unwritten w e =
+    record {
+      given = sym e;
+      out = e;
+      stays = record { input = record { bytes = refl; start = refl; end = refl; rest = refl }; unit = refl; offset = refl; state = refl };
+    }
 
 -- all is offered: nothing is left
-left_nothing : (w : Walk) (b : List ℕ) → Offered w → Left w b []
-left_nothing w b a =
+left_nothing : (w : Window) → Offered w → Left w []
+left_nothing w a =
     let z : w.end - w.start ≡ 0 = omega (arith, a.1) in
     record { front = rw z; all = λ t. omega arith }
 
--- a write that failed is told
-told : (w : Walk) → w.failed ≡ true → failure_of w ≡ Nothing → ⊥
+-- a failure is told
+told : (w : Walk) (q : Result Unit Failure) → failure_of w q ≡ Ok tt → is_err q ≡ true → ⊥
 unfolding failure_of pick
-told w f q = go w.unreadable (rw f at q)
+told w q e f = go (is_unreadable w.input.rest) e
   where
-    go : (t : Bool) → pick t Reading Writing ≡ Nothing → ⊥
-    go true e = let z : ◌≡◌ {A = ℕ} 0 1 = cc in omega arith
-    go false e = let z : ◌≡◌ {A = ℕ} 0 1 = cc in omega arith
+    go : (t : Bool) → pick t (Err Reading) q ≡ Ok tt → ⊥
+    go true e = true≢false (ap is_err e)
+    go false e = true≢false (sym f ∙ ap is_err e)
 
 module _
-    {b o u z b' o' u' final : List ℕ} {s e r : Walk} (zeros : u ≡ z)
-    (fresh : Fresh s) (owes : (o recording : List ℕ) → owed listing_settings s o z recording ≡ listing recording)
-    (a : Ended listing_settings s b o u e b' o' u') (g : Gave e o' final r) where
-  goes_on : (rest : List ℕ) → Left r b' rest
-      → listing (a.walked.read ++ rest) ≡ (a.walked.text ++ final) ++ owed listing_settings r o' u' rest
+    {final : List ℕ} {s e r : Walk} {p q : Result Unit Failure} (fresh : Fresh s)
+    (owes : (recording : List ℕ) → owed listing_settings s recording ≡ listing recording)
+    (a : Ended listing_settings s p e) (g : Gave e final r) (k : is_err p ≡ true → q ≡ p) (w : IsOkUnless q Writing) where
+  goes_on : (rest : List ℕ) → Left r.input rest
+      → listing (a.walked.read ++ rest) ≡ (a.walked.text ++ final) ++ owed listing_settings r rest
   goes_on rest l =
-      sym (rw zeros (owes o (a.walked.read ++ rest)))
-      ∙ turns_owed a.walked.turns rest (left_stays e b' rest g.stays l)
-      ∙ ap (λ (x : List ℕ). a.walked.text ++ x) (gave_owed listing_settings e u' rest g)
-      ∙ sym (append_assoc a.walked.text final (owed listing_settings r o' u' rest))
+      sym (owes (a.walked.read ++ rest))
+      ∙ turns_owed a.walked.turns rest (left_stays e rest g.stays l)
+      ∙ ap (λ (x : List ℕ). a.walked.text ++ x) (gave_owed listing_settings e rest g)
+      ∙ sym (append_assoc a.walked.text final (owed listing_settings r rest))
 
-  whole : Offered r → listing a.walked.read ≡ a.walked.text ++ final
+  whole : Offered r.input → listing a.walked.read ≡ a.walked.text ++ final
   whole all =
-      let end : Left r b' [] = left_nothing r b' all in
-      let none : owed listing_settings r o' u' [] ≡ [] = owed_end listing_settings r o' u' all.0 all.1 end ∙ rw g.out in
+      let end : Left r.input [] = left_nothing r.input all in
+      let none : owed listing_settings r [] ≡ [] = owed_end listing_settings r all.0 all.1 end ∙ g.out in
       rw (append-nil a.walked.read, none, append-nil (a.walked.text ++ final)) at (goes_on [] end)
 
-  silent : failure_of r ≡ Nothing → (r.done ≡ true) ⊎ (a.left ≡ 0)
-  silent q = go a.ends
+  silent : failure_of r q ≡ Ok tt → Offered r.input ⊎ (a.left ≡ 0)
+  silent n = go a.ends
     where
-      go : (e.done ≡ true) ⊎ ((e.failed ≡ true) ⊎ (a.left ≡ 0)) → (r.done ≡ true) ⊎ (a.left ≡ 0)
-      go (inl d) = inl (g.done ∙ d)
-      go (inr (inl f)) = absurd (told r (g.failed f) q)
+      go : Offered e.input ⊎ ((is_err p ≡ true) ⊎ (a.left ≡ 0)) → Offered r.input ⊎ (a.left ≡ 0)
+      go (inl o) = inl (same_offered e.input g.stays.input o)
+      go (inr (inl f)) = absurd (told r q n (rw (k f) f))
       go (inr (inr z)) = inr z
 
-  live : {k : ℕ} {read text b'' o'' u'' : List ℕ} {w : Walk} → Turns listing_settings s b o u k read text w b'' o'' u'' → Waits w b''
-      → (rest : List ℕ) → Left w b'' rest
-      → listing (read ++ rest) ≡ text ++ lines_of listing_settings w.offset w.state u'' (offers rest)
-  live {read = read} {text = text} {b'' = b''} {o'' = o''} {u'' = u''} {w = w} turns waits rest l =
-      sym (rw zeros (owes o (read ++ rest)))
+  live : {k : ℕ} {read text : List ℕ} {w : Walk} → Turns listing_settings s k read text w → Waits w
+      → (rest : List ℕ) → Left w.input rest
+      → listing (read ++ rest) ≡ text ++ lines_of listing_settings w.offset w.state w.unit (offers rest)
+  live {read = read} {text = text} {w = w} turns waits rest l =
+      sym (owes (read ++ rest))
       ∙ turns_owed turns rest l
-      ∙ ap (λ (x : List ℕ). text ++ x) (owed_waits listing_settings w b'' o'' u'' rest waits)
+      ∙ ap (λ (x : List ℕ). text ++ x) (owed_waits listing_settings w rest waits)
 
-  pub listed : Listed b o u r b' o' u'
+  pub listed : Listed s q r
   listed =
       record {
-        start = s;
         fresh = fresh;
         end = e;
+        stop = p;
         ended = a;
         final = final;
         gave = g;
+        kept = k;
+        told = w;
         goes_on = goes_on;
-        whole = λ t. whole (offered_stays e g.stays (a.walked.done (sym g.done ∙ t)));
+        whole = whole;
         silent = silent;
         live = live;
       }

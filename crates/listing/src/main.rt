@@ -2,373 +2,289 @@
 // Document 01, 'Listing'.
 #![tactic(auto)]
 
-ghost use Rattle.std.specs.Prelude.{◌≡◌, ℕ, ◌+◌, ◌^◌, ◌<◌, ◌≤◌, true, false, List, [], ◌∷◌, ◌++◌, length, take, drop, replicate};
-ghost use Rattle.listing.specs.Text.{decimal, field, line};
-ghost use Rattle.wire.specs.Puts.{Puts};
-ghost use Rattle.rules.specs.declared.Settings.{Settings as AnySettings};
-ghost use Rattle.rules.specs.Recording.{listing_settings};
-ghost use Rattle.listing.specs.Lines.{listing};
-ghost use Rattle.stream.specs.Words.{count_of};
-ghost use Rattle.listing.specs.Walk.{Fine, Left, whole, ready, Stays, Came, Kept, Served, Room, full, due, Wrote, Gave, owed, Turned};
-ghost use Rattle.listing.specs.Turns.{Fresh, Ended, Listed, failure_of};
+ghost use Rattle.std.specs.Prelude.{◌≡◌, ◌+◌, ◌<◌, ◌≤◌, ◌↔◌, ◌++◌, length};
+ghost use Rattle.rules.specs.Told.{answer_told};
+ghost use Rattle.listing.specs.Text.{field, line};
 
-use rules::{Answer, Settings, State};
+use arrayvec::ArrayString;
+use itoa::Buffer;
+use rules::{Reception, Refusal, Settings, State};
 use std::io::writer;
 use std::rt::Clock;
-use stream::{Failure, Input};
+use stream::Failure;
 
-// The bytes at hand are start..end of the input's buffer, the first of them is number `offset` of the input, and the output's
-// buffer holds `out` bytes of whole lines. over: the input has ended; done: all of it is offered; unreadable: a read failed, which
-// ends the input too; failed: a write failed.
+// What may follow the bytes at hand: more of the input, or nothing, since it has ended or since a read of it failed.
 #[derive(Clone, Copy)]
-struct Walk {
+enum Rest {
+    Open,
+    Closed,
+    Unreadable,
+}
+
+// The input's buffer, which is large, since what is done is written before each read. The bytes at hand are start..end of it.
+#[derive(Drop)]
+struct Window {
+    bytes: [u8; 262144],
     start: usize,
     end: usize,
+    rest: Rest,
+    ghost order: { start ≤ end },
+    ghost within: { end ≤ length bytes },
+}
+
+// The first of the bytes at hand is number `offset` of the input, and the output's buffer holds whole lines.
+#[derive(Drop)]
+struct Walk {
+    input: Window,
+    output: ArrayString<65536>,
+    unit: [u8; 65535],
     offset: u64,
-    out: usize,
-    over: bool,
-    done: bool,
-    unreadable: bool,
-    failed: bool,
     state: State,
 }
 
-// Puts one byte at `at` and answers where it ends.
-fn put_byte(output: &mut [u8], at: usize, byte: u8) -> usize
-    requires { at + 1 ≤ length output.old }
-    ensures { Puts output.old at (byte ∷ []) result output.new }
-{
-    output[at] = byte;
-    at + 1
-}
-
-// The ASCII digit of a number below 10.
-fn digit(n: u64) -> u8
-    requires { n < 10 }
-    ensures { result ≡ 48 + n }
-{
-    48 + n as u8
-}
-
-// Puts a number in decimal: the digits before the last, then the last.
-fn put_decimal(output: &mut [u8], at: usize, n: u64) -> usize
-    requires { at + length (decimal n) ≤ length output.old }
-    ensures { Puts output.old at (decimal n) result output.new }
-{
-    let last = n < 10;
-    if last {
-        return put_byte(output, at, digit(n));
-    }
-    let end = put_decimal(output, at, n / 10);
-    put_byte(output, end, digit(n % 10))
-}
-
 // Puts a number and the byte after it.
-fn put_field(output: &mut [u8], at: usize, n: u64, mark: u8) -> usize
-    requires { at + 21 ≤ length output.old }
-    ensures { Puts output.old at (field n mark) result output.new }
+fn put_field(lines: &mut ArrayString<65536>, n: u64, mark: char)
+    requires room { length lines.old.bytes + 21 ≤ 65536 }
+    requires ascii { mark < 128 }
+    ensures text { lines.new.bytes ≡ lines.old.bytes ++ field n mark }
+    ensures short { length lines.new.bytes ≤ length lines.old.bytes + 21 }
 {
-    let end = put_decimal(output, at, n);
-    put_byte(output, end, mark)
+    let mut digits = Buffer::new();
+    lines.push_str(digits.format(n));
+    lines.push(mark);
 }
 
-fn put_line(output: &mut [u8], at: usize, offset: u64, answer: Answer) -> usize
-    requires { at + 63 ≤ length output.old }
-    ensures { Puts output.old at (line offset answer) result output.new }
+fn put_line(lines: &mut ArrayString<65536>, offset: u64, answer: Result<Reception, Refusal>)
+    requires { length lines.old.bytes + 63 ≤ 65536 }
+    ensures { lines.new.bytes ≡ lines.old.bytes ++ line offset (answer_told answer) }
 {
     let number = answer_numbers::number_of(answer) as u64;
     let length = answer_numbers::length_of(answer) as u64;
-    let second = put_field(output, at, offset, b' ');
-    let third = put_field(output, second, number, b' ');
-    put_field(output, third, length, b'\n')
+    put_field(lines, offset, ' ');
+    put_field(lines, number, ' ');
+    put_field(lines, length, '\n');
 }
 
-// One offer: the receiver gets it, and its line is put into the output's buffer.
-fn serve(settings: Settings, walk: Walk, input: &[u8], output: &mut [u8], unit: &mut [u8]) -> Walk
-    requires fine { Fine walk (length input.now) }
-    requires input_value { ready walk input.now ≡ true }
-    requires out_in_bounds { walk.out + 63 ≤ length output.old }
-    ensures served { Served settings walk input.now output.old unit.old
-        result output.new unit.new }
-    ensures fine_2 { Fine result (length input.now) }
-    ensures room { Room result (length output.old) }
-{
-    let start = walk.start;
-    let end = walk.end;
-    let state = walk.state;
-    let n = recording::offer_length(&input[start..end]);
-    let stop = start + n;
-    let step = receiver::receive(settings, state, &input[start..stop], unit);
-    let answer = step.answer;
-    let after = step.state;
-    let at = put_line(output, walk.out, walk.offset, answer);
-    Walk {
-        start: stop,
-        end: end,
-        offset: std::num::wrapping_add_u64(walk.offset, n as u64),
-        out: at,
-        over: walk.over,
-        done: false,
-        unreadable: walk.unreadable,
-        failed: walk.failed,
-        state: after,
+impl Rest {
+    ghost use Rattle.listing.specs.Walk.{has_ended, is_unreadable};
+
+    fn has_ended(self) -> bool
+        ensures { result ≡ has_ended self }
+    {
+        !matches!(self, Rest::Open)
     }
 }
 
-// Moves the n bytes from index `from` on to the start.
-fn move_down(buffer: &mut [u8], from: usize, n: usize)
-    requires { from + n ≤ length buffer.old }
-    ensures { buffer.new ≡ take n (drop from buffer.old) ++ drop n buffer.old }
-{
-    let mut i = 0;
-    while i < n {
-        buffer[i] = buffer[from + i];
-        i += 1;
+impl Window {
+    ghost use Rattle.std.specs.Prelude.{false, true};
+    ghost use Rattle.stream.specs.Words.{count_of};
+    ghost use Rattle.listing.specs.Walk.{at_hand, has_ended, whole, ready, Offered, Came, Kept};
+
+    fn at_hand(&self) -> &[u8]
+        ensures { result.now ≡ at_hand self.now }
+    {
+        &self.bytes[self.start..self.end]
     }
-}
 
-// What a read into the room after the bytes at hand gave: more of them, the end of the input, or a failure, which ends it too.
-fn came(walk: Walk, got: Input) -> Walk
-    requires { walk.end + count_of got < 2 ^ 64 }
-    ensures { Came walk got result }
-{
-    let mut after = walk;
-    let Input::Bytes(n) = got else {
-        after.over = true;
-        after.unreadable = true;
-        return after;
-    };
-    after.end = walk.end + n;
-    after.over = n == 0;
-    after
-}
-
-// More input: one read after the bytes at hand; where the room there is short, they move to the front first.
-fn refill(rt: &(impl std::io::Input + Clock), walk: Walk, input: &mut [u8]) -> Walk
-    requires fine { Fine walk (length input.old) }
-    requires over_value { walk.over ≡ false }
-    ensures fine_2 { Fine result (length input.old) }
-    ensures kept { Kept walk input.old result input.new }
-{
-    let start = walk.start;
-    let end = walk.end;
-    if input.len() - end < 4098 {
-        let n = end - start;
-        move_down(input, start, n);
-        let mut after = walk;
-        after.start = 0;
-        after.end = n;
-        return after;
+    // The bytes at hand hold a whole offer. The longest has 4,098 bytes: with as many there is no need to look.
+    #[tactic(auto, unfolding(crate::specs::Walk::whole), using(crate::proofs::Owed::longest))]
+    fn whole(&self) -> bool
+        ensures { result ≡ whole (at_hand self.now) }
+    {
+        let hand = self.at_hand();
+        4098 <= hand.len() || 3 + section_fields::section_length(hand) <= hand.len()
     }
-    let got = stream::read_some(rt, &mut rt.reader(), &mut input[end..]);
-    came(walk, got)
-}
 
-// What the output's buffer holds. Each write takes its bytes from here.
-fn pending<'a>(walk: Walk, output: &'a [u8]) -> &'a [u8]
-    requires { Room walk (length output.now) }
-    ensures { result.now ≡ take walk.out output.now }
-{
-    let out = walk.out;
-    &output[..out]
-}
-
-// What a write of all that the output's buffer holds answered: the buffer is empty then, and a failure is not forgotten.
-fn wrote(walk: Walk, whole: bool) -> Walk
-    ensures { Wrote walk whole result }
-{
-    let mut after = walk;
-    after.out = 0;
-    after.failed = wire::either(walk.failed, !whole);
-    after
-}
-
-// The one write to standard output: what it is given has to be all that the output's buffer holds.
-fn write(rt: &(impl Print + Clock), walk: Walk, output: &[u8], text: &[u8]) -> Walk
-    requires { text.now ≡ take walk.out output.now }
-    ensures { Gave walk output.now text.now result }
-{
-    let whole = stream::write_whole(rt, &mut writer(rt), text);
-    wrote(walk, whole)
-}
-
-fn flush(rt: &(impl Print + Clock), walk: Walk, output: &[u8]) -> Walk
-    requires { Room walk (length output.now) }
-    ensures { Gave walk output.now (take walk.out output.now) result }
-{
-    write(rt, walk, output, pending(walk, output))
-}
-
-// The input has ended and all of it is offered: what the output's buffer holds is all that is owed.
-fn finish(walk: Walk) -> Walk
-    requires over_value { walk.over ≡ true }
-    requires start_value { walk.start ≡ walk.end }
-    ensures stays { Stays walk result }
-    ensures out_value { (result.out ≡ walk.out) × (result.done ≡ true) × (result.failed ≡ walk.failed) }
-    ensures rest_value { (c : AnySettings) (b o u rest : List ℕ) → Left result b rest → owed c result o u rest ≡ take result.out o }
-{
-    let mut after = walk;
-    after.done = true;
-    after
-}
-
-fn full(walk: Walk, n: usize) -> bool
-    requires { Room walk n }
-    ensures { result ≡ full walk n }
-{
-    n - walk.out < 63
-}
-
-// A write is due: a line may not fit, or the turn would read although there is something to write, and a read may wait.
-fn due(walk: Walk, ready: bool, n: usize) -> bool
-    requires { Room walk n }
-    ensures { result ≡ due walk ready n }
-{
-    let idle = wire::both(!ready, 0 < walk.out);
-    wire::either(full(walk, n), idle)
-}
-
-// The bytes hold a whole offer. The longest has 4,098 bytes: with as many there is no need to look.
-fn whole(s: &[u8]) -> bool
-    ensures { result ≡ whole s.now }
-{
-    if 4098 <= s.len() {
-        return true;
+    // An offer may be cut.
+    #[tactic(auto, unfolding(crate::specs::Walk::ready, wire::specs::Choice::either))]
+    fn ready(&self) -> bool
+        ensures { result ≡ ready self.now }
+    {
+        self.rest.has_ended() || self.whole()
     }
-    3 + section_fields::section_length(s) <= s.len()
-}
 
-fn ready(walk: Walk, input: &[u8]) -> bool
-    requires { Fine walk (length input.now) }
-    ensures { result ≡ ready walk input.now }
-{
-    let start = walk.start;
-    let end = walk.end;
-    wire::either(walk.over, whole(&input[start..end]))
-}
+    // All of the input is offered.
+    fn is_offered(&self) -> bool
+        ensures { (result ≡ true) ↔ Offered self.now }
+    {
+        self.rest.has_ended() && self.start == self.end
+    }
 
-// One turn: a write, more input, the end, or an offer.
-fn turn(
-    rt: &(impl std::io::Input + Print + Clock),
-    settings: Settings,
-    walk: Walk,
-    input: &mut [u8],
-    output: &mut [u8],
-    unit: &mut [u8],
-) -> Walk
-    requires fine { Fine walk (length input.old) }
-    requires room { Room walk (length output.old) }
-    requires done_value { walk.done ≡ false }
-    ensures fine_2 { Fine result (length input.old) }
-    ensures room_2 { Room result (length output.old) }
-    ensures turned { Turned settings walk input.old output.old unit.old
-        result input.new output.new unit.new }
-{
-    let ready = ready(walk, input);
-    if due(walk, ready, output.len()) {
-        return flush(rt, walk, output);
-    }
-    if !ready {
-        return refill(rt, walk, input);
-    }
-    if walk.start == walk.end {
-        return finish(walk);
-    }
-    serve(settings, walk, input, output, unit)
-}
-
-// At the start of a recording, with a fresh receiver: its listing is owed, and any recording may be left.
-fn fresh() -> Walk
-    ensures by_index { (o recording : List ℕ) → owed listing_settings result o (replicate 65535 0) recording ≡ listing recording }
-    ensures fine { (Fine result 0) × (Room result 0) }
-    ensures fresh { Fresh result }
-{
-    Walk {
-        start: 0,
-        end: 0,
-        offset: 0,
-        out: 0,
-        over: false,
-        done: false,
-        unreadable: false,
-        failed: false,
-        state: State::Idle,
-    }
-}
-
-// Turn after turn, until all is offered or a write failed. A proved loop has to end, and nothing says that the input does: the
-// turns count down from a number that no listing uses up.
-fn walk_on(
-    rt: &(impl std::io::Input + Print + Clock),
-    settings: Settings,
-    start: Walk,
-    input: &mut [u8],
-    output: &mut [u8],
-    unit: &mut [u8],
-) -> Walk
-    requires fine { Fine start (length input.old) }
-    requires room { Room start (length output.old) }
-    requires done_value { start.done ≡ false }
-    ensures room_2 { Room result (length output.old) }
-    ensures ended { Ended settings start input.old output.old unit.old
-        result input.new output.new unit.new }
-{
-    let mut walk = start;
-    let mut turns = u64::MAX;
-    while turns > 0 {
-        if walk.done {
-            return walk;
+    // What a read into the room after the bytes at hand gave: more of them, the end of the input, or a failure, which ends it too.
+    #[tactic(auto, unfolding(wire::specs::Choice::either))]
+    fn came(&mut self, got: Result<usize, Failure>)
+        requires ended { has_ended self.old.rest ≡ false }
+        requires room { self.old.end + count_of got ≤ length self.old.bytes }
+        ensures { Came self.old got self.new }
+    {
+        match got {
+            Ok(0) => self.rest = Rest::Closed,
+            Ok(n) => self.end += n,
+            Err(_) => self.rest = Rest::Unreadable,
         }
-        if walk.failed {
-            return walk;
+    }
+
+    // More input: one read after the bytes at hand; where the room there is short, they move to the front first.
+    fn refill(&mut self, rt: &(impl std::io::Input + Clock))
+        requires { has_ended self.old.rest ≡ false }
+        ensures { Kept self.old self.new }
+    {
+        if self.bytes.len() - self.end < 4098 {
+            self.bytes.copy_within(self.start..self.end, 0);
+            self.end -= self.start;
+            self.start = 0;
+            return;
         }
-        walk = turn(rt, settings, walk, input, output, unit);
-        turns -= 1;
+        let got = stream::read_some(rt, &mut rt.reader(), &mut self.bytes[self.end..]);
+        self.came(got);
     }
-    walk
 }
 
-// The whole listing: the turns, and what their last lines leave in the output's buffer.
-fn list(
-    rt: &(impl std::io::Input + Print + Clock),
-    input: &mut [u8],
-    output: &mut [u8],
-    unit: &mut [u8],
-) -> Walk
-    requires { unit.old ≡ replicate 65535 0 }
-    ensures { Listed input.old output.old unit.old
-        result input.new output.new unit.new }
-{
-    let start = fresh();
-    let end = walk_on(
-        rt,
-        recording::listing_settings(),
-        start,
-        input,
-        output,
-        unit,
-    );
-    flush(rt, end, output)
+impl Walk {
+    ghost use Rattle.std.specs.Prelude.{ℕ, List, true, IsOkUnless};
+    ghost use Rattle.stream.specs.declared.Failure.TheVariants.{Writing};
+    ghost use Rattle.rules.specs.Recording.{listing_settings};
+    ghost use Rattle.listing.specs.Lines.{listing};
+    ghost use Rattle.listing.specs.Walk.{ready, Served, due, Wrote, Gave, owed, Offered, Turned};
+    ghost use Rattle.listing.specs.Turns.{Fresh, Ended, Listed, failure_of};
+
+    // At the start of a recording, with a fresh receiver: its listing is owed, and any recording may be left.
+    fn new() -> Walk
+        ensures owes { (recording : List ℕ) → owed listing_settings result recording ≡ listing recording }
+        ensures fresh { Fresh result }
+    {
+        Walk {
+            input: Window {
+                bytes: [0; 262144],
+                start: 0,
+                end: 0,
+                rest: Rest::Open,
+            },
+            output: ArrayString::new(),
+            unit: [0; 65535],
+            offset: 0,
+            state: State::Idle,
+        }
+    }
+
+    // One offer: the receiver gets it, and its line is put into the output's buffer.
+    fn serve(&mut self, settings: Settings)
+        requires input_value { ready self.old.input ≡ true }
+        requires room { length self.old.output.bytes + 63 ≤ 65536 }
+        ensures { Served settings self.old self.new }
+    {
+        let hand = self.input.at_hand();
+        let n = recording::offer_length(hand);
+        let step = receiver::receive(settings, self.state, &hand[..n], &mut self.unit);
+        put_line(&mut self.output, self.offset, step.answer);
+        self.input.start += n;
+        self.offset = self.offset.wrapping_add(n as u64);
+        self.state = step.state;
+    }
+
+    // What the output's buffer holds. Each write takes its bytes from here.
+    fn pending(&self) -> &[u8]
+        ensures { result.now ≡ self.now.output.bytes }
+    {
+        self.output.as_str().as_bytes()
+    }
+
+    // The one write to standard output: what it is given has to be all that the output's buffer holds.
+    fn write(&self, rt: &(impl Print + Clock), text: &[u8]) -> Result<(), Failure>
+        requires { text.now ≡ self.now.output.bytes }
+        ensures { IsOkUnless result Writing }
+    {
+        stream::write_whole(rt, &mut writer(rt), text)
+    }
+
+    // What a write of all that the output's buffer holds answered is handed on, and the buffer is empty then.
+    fn wrote(&mut self, outcome: Result<(), Failure>) -> Result<(), Failure>
+        ensures { Wrote self.old outcome result self.new }
+    {
+        self.output.clear();
+        outcome
+    }
+
+    fn flush(&mut self, rt: &(impl Print + Clock)) -> Result<(), Failure>
+        ensures gave { Gave self.old self.old.output.bytes self.new }
+        ensures failed { IsOkUnless result Writing }
+    {
+        let outcome = self.write(rt, self.pending());
+        self.wrote(outcome)
+    }
+
+    // A write is due: a line may not fit, or the turn would read although there is something to write, and a read may wait.
+    #[tactic(auto, unfolding(crate::specs::Walk::full, crate::specs::Walk::due, wire::specs::Choice::both, wire::specs::Choice::either))]
+    fn due(&self, ready: bool) -> bool
+        ensures is { result ≡ due self.now ready }
+        ensures fits { length self.now.output.bytes ≤ 65536 }
+    {
+        self.output.remaining_capacity() < 63 || !ready && 0 < self.output.len()
+    }
+
+    // One turn: a write, more input, or an offer.
+    fn turn(
+        &mut self,
+        rt: &(impl std::io::Input + Print + Clock),
+        settings: Settings,
+    ) -> Result<(), Failure>
+        requires { Offered self.old.input → ⊥ }
+        ensures { Turned settings self.old result self.new }
+    {
+        let ready = self.input.ready();
+        if self.due(ready) {
+            return self.flush(rt);
+        }
+        if !ready {
+            self.input.refill(rt);
+            return Ok(());
+        }
+        self.serve(settings);
+        Ok(())
+    }
+
+    // Turn after turn, until all is offered or a write failed. A proved loop has to end, and nothing says that the input does: no
+    // listing uses up so many turns.
+    fn walk_on(
+        &mut self,
+        rt: &(impl std::io::Input + Print + Clock),
+        settings: Settings,
+    ) -> Result<(), Failure>
+        ensures { Ended settings self.old result self.new }
+    {
+        for _ in 0..u64::MAX {
+            if self.input.is_offered() {
+                break;
+            }
+            self.turn(rt, settings)?;
+        }
+        Ok(())
+    }
+
+    // The whole listing: the turns, and what their last lines leave in the output's buffer.
+    fn list(&mut self, rt: &(impl std::io::Input + Print + Clock)) -> Result<(), Failure>
+        requires owes { (recording : List ℕ) → owed listing_settings self.old recording ≡ listing recording }
+        requires fresh { Fresh self.old }
+        ensures { Listed self.old result self.new }
+    {
+        self.walk_on(rt, recording::listing_settings())?;
+        self.flush(rt)
+    }
+
+    // What has failed: the input, where both have, since nothing is read after a write that failed.
+    #[tactic(auto, unfolding(crate::specs::Turns::failure_of, wire::specs::Choice::pick))]
+    fn outcome(&self, written: Result<(), Failure>) -> Result<(), Failure>
+        ensures { result ≡ failure_of self.now written }
+    {
+        match self.input.rest {
+            Rest::Unreadable => Err(Failure::Reading),
+            Rest::Open | Rest::Closed => written,
+        }
+    }
 }
 
-// What has failed: the input, where both have, since nothing is read after a write that failed.
-fn failure(walk: Walk) -> Failure
-    ensures { result ≡ failure_of walk }
-{
-    if walk.unreadable {
-        return Failure::Reading;
-    }
-    if walk.failed {
-        return Failure::Writing;
-    }
-    Failure::Nothing
-}
-
-// The input's buffer is large, since what is done is written before each read.
 fn main(rt: HostRuntime) {
-    let mut input = [0; 262144];
-    let mut output = [0; 65536];
-    let mut unit = [0; 65535];
-    let end = list(&rt, &mut input, &mut output, &mut unit);
-    stream::say(failure(end));
+    let mut walk = Walk::new();
+    let written = walk.list(&rt);
+    stream::say(walk.outcome(written));
 }

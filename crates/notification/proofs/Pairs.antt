@@ -4,9 +4,10 @@ use native.Mathlib.Omega.{arith}
 use native.Mathlib.Decide.{dec_le}
 use mathlib.Core.Path.{◌≡◌, refl, sym, ap, ap₂, ◌∙◌}
 use mathlib.Core.Bool.{Bool, true, false, not}
-use mathlib.Core.List.{List, [], ◌∷◌}
-use lib.ListN.{length, take, drop, length-drop}
-use lib.Seq.{drop-drop, length-take-le}
+use mathlib.Core.Logic.{◌⊎◌, inl, inr}
+use mathlib.Core.List.{List, [], ◌∷◌, ◌++◌}
+use lib.ListN.{length, take, drop, length-append, length-drop}
+use lib.Seq.{drop-drop, length-take-le, take_at, drop_at}
 use borrow.Author.Tests.{lt-ltb, le-ltb, not-false}
 use Rattle.wire.specs.Bytes.{byte_at}
 use Rattle.wire.specs.Choice.{pick, both, either}
@@ -122,6 +123,16 @@ unfolding pair_or_end first_pair pick pairs_from from_offset pairs_of
 ends s o test h g =
     rw (le-ltb o (length s) g, cut_none s o h (omega (arith, loop_two (drop o s))))
 
+-- one of two tests holds, or none does
+pub one_holds : (t u : Bool) → (t ≡ true) ⊎ ((t ≡ false) × (u ≡ true)) → either t u ≡ true
+unfolding either
+one_holds t u (inl e) = rw e
+one_holds t u (inr e) = rw (e.0, e.1)
+
+pub none_holds : (t u : Bool) → t ≡ false → u ≡ false → either t u ≡ false
+unfolding either
+none_holds t u e f = rw (e, f)
+
 -- ---- whether a pair answers, with what the code has read of it: its two loops, and whether the second has a location
 module _ (device : Address) (general : Bool) (s : List ℕ) (o n : ℕ) (e : n ≡ o + loop_size (drop o s))
     (x y : List ℕ) (ex : x ≡ content (loop_at s o)) (ey : y ≡ content (loop_at s n)) (b : Bool)
@@ -178,25 +189,30 @@ module _ (device : Address) (s : List ℕ) (n : ℕ) (e : n ≡ descriptor_size 
   unfolding pick
   descriptor_miss h z = rw (from, one_descriptor h, z)
 
--- ---- entries of a descriptor
-module _ (device : Address) (d a : List ℕ) (n : ℕ) (g : 0 < n) where
-  pub no_entry : length a < n → any (hit device d) (cut_of (λ _. n) a).items ≡ false
+-- ---- entries of a descriptor, of which x stands at the front of what is left, a, and b after it
+module _ (device : Address) (d : List ℕ) (n : ℕ) (g : 0 < n) where
+  abbrev pub struck : List ℕ → Bool
+  struck a = any (hit device d) (cut_of (λ _. n) a).items
+
+  pub no_entry : (a : List ℕ) → length a < n → struck a ≡ false
   unfolding any
-  no_entry h = ap (λ (c : Cut). any (hit device d) c.items) (stops (λ _. n) (λ _. g) a h)
+  no_entry a h = ap (λ (c : Cut). any (hit device d) c.items) (stops (λ _. n) (λ _. g) a h)
 
-  one_entry : n ≤ length a → any (hit device d) (cut_of (λ _. n) a).items
-      ≡ pick (hit device d (take n a)) true (any (hit device d) (cut_of (λ _. n) (drop n a)).items)
-  unfolding any
-  one_entry h = ap (λ (c : Cut). any (hit device d) c.items) (goes_on (λ _. n) (λ _. g) a h)
+  module _ (a x b : List ℕ) (e : a ≡ x ++ b) (l : length x ≡ n) where
+    one_entry : struck a ≡ pick (hit device d x) true (struck b)
+    unfolding any
+    one_entry =
+        let h : n ≤ length a = omega (arith, ap length e ∙ length-append x b) in
+        ap (λ (c : Cut). any (hit device d) c.items) (goes_on (λ _. n) (λ _. g) a h)
+        ∙ rw (e, take_at x b n l, drop_at x b n l)
 
-  pub entry_hit : n ≤ length a → hit device d (take n a) ≡ true → any (hit device d) (cut_of (λ _. n) a).items ≡ true
-  unfolding pick
-  entry_hit h z = rw (one_entry h, z)
+    pub entry_hit : hit device d x ≡ true → struck a ≡ true
+    unfolding pick
+    entry_hit z = rw (one_entry, z)
 
-  pub entry_miss : n ≤ length a → hit device d (take n a) ≡ false
-      → any (hit device d) (cut_of (λ _. n) (take (length a - n) (drop n a))).items ≡ any (hit device d) (cut_of (λ _. n) a).items
-  unfolding pick
-  entry_miss h z = rw (from, one_entry h, z)
+    pub entry_miss : hit device d x ≡ false → struck b ≡ struck a
+    unfolding pick
+    entry_miss z = rw (one_entry, z)
 
 -- what the entries say is what the descriptor says
 pub covers_by : (device : Address) (d a : List ℕ) (t n : ℕ) (k : Bool) → t ≡ byte_at d 0 → n ≡ entry_size t → a ≡ entry_bytes d

@@ -9,7 +9,7 @@ use wire::byte_at;
 
 // How loops and descriptors fill bytes: exactly; with a known descriptor of another length (33); not exactly (32). Each is worse than the
 // one before it, and the worst that was met is handed on to the end.
-#[derive(Clone, Copy)]
+#[derive(Clone, Copy, PartialEq, Eq, PartialOrd, Ord)]
 pub enum Fit {
     Exact,
     OtherLength,
@@ -31,33 +31,27 @@ pub fn descriptor_size(s: &[u8]) -> usize
 }
 
 // A descriptor with this tag may have n bytes.
+#[tactic(auto, unfolding(notification_rules::specs::Target::right_length, wire::specs::Choice::pick, wire::specs::Choice::both))]
 fn right_length(tag: u8, n: u8) -> bool
     ensures { result ≡ right_length tag n }
 {
-    if tag == 0x07 {
-        return wire::both(6 <= n, n % 6 == 0);
+    match tag {
+        0x07 => 6 <= n && n % 6 == 0,
+        0x0e => n % 12 == 0,
+        0x13 => n == 9,
+        _ => true,
     }
-    if tag == 0x0e {
-        return n % 12 == 0;
-    }
-    if tag == 0x13 {
-        return n == 9;
-    }
-    true
 }
 
 // `fit` after one more descriptor, which has this tag and n bytes.
+#[tactic(auto, unfolding(crate::specs::Readers::worse, crate::specs::Readers::length_fit, crate::specs::Readers::fit_of, wire::specs::Choice::pick))]
 fn with_descriptor(fit: Fit, tag: u8, n: u8) -> Fit
     ensures { result ≡ worse fit (length_fit tag n) }
 {
     if right_length(tag, n) {
         return fit;
     }
-    match fit {
-        Fit::Exact => Fit::OtherLength,
-        Fit::OtherLength => Fit::OtherLength,
-        Fit::Misfit => Fit::Misfit,
-    }
+    fit.max(Fit::OtherLength)
 }
 
 // `fit` after the descriptors up to the end of a loop.
@@ -106,8 +100,5 @@ pub fn operational_loop(s: &[u8], fit: Fit) -> Fit
 pub fn after<'a>(s: &'a [u8], k: usize) -> &'a [u8]
     ensures { After s.entry k result }
 {
-    if s.len() < k {
-        return &s[..0];
-    }
-    &s[k..]
+    &s[k.min(s.len())..]
 }

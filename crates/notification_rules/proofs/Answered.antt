@@ -20,8 +20,7 @@ use Rattle.wire.proofs.Bytes.{append_bytes, bytes_of_bytes, length_bytes_of, num
 use Rattle.rules.specs.declared.Address.{Address}
 use Rattle.rules.specs.Address.{address_bytes}
 use Rattle.rules.specs.Section.{sealed}
-use Rattle.notification_rules.specs.declared.Finding.{Finding}
-use Rattle.notification_rules.specs.declared.Finding.TheVariants.{Found, Nobody}
+use Rattle.notification_rules.specs.Answers.{Finding, Found, Nobody}
 use Rattle.notification_rules.specs.Cut.{Cut, is_nil, any, from_offset}
 use Rattle.notification_rules.specs.Loop.{descriptor_items, descriptors_of, loops_of, Pair, pairs_of}
 use Rattle.notification_rules.specs.Range.{in_range}

@@ -11,8 +11,7 @@ use Rattle.wire.specs.Choice.{both, pick, without}
 use Rattle.wire.proofs.Choice.{first_of_without}
 use Rattle.rules.specs.declared.Address.{Address}
 use Rattle.rules.specs.Check.{shared_lines, form_lines, order_lines}
-use Rattle.notification_rules.specs.declared.Finding.{Finding}
-use Rattle.notification_rules.specs.declared.Finding.TheVariants.{Found, Nobody, Refused}
+use Rattle.notification_rules.specs.Answers.{Finding, Found, Nobody, Refused}
 use Rattle.notification_rules.specs.Format.{Nothing, OthersGiveNothing, TakenExactly}
 use Rattle.notification_rules.specs.Finding.{loop_lines, finding_number, finding_of, finding_offset, notification_form, part_of, platform_lines, refusal}
 use Rattle.notification_rules.proofs.Found.{takes}

@@ -9,7 +9,7 @@ use borrow.Author.Tests.{eq-eqb}
 use Rattle.wire.specs.Choice.{pick}
 use Rattle.rules.specs.declared.Address.{Address}
 use Rattle.wire.specs.Part.{Part}
-use Rattle.notification_rules.specs.declared.Finding.TheVariants.{Refused}
+use Rattle.notification_rules.specs.Answers.{Refused}
 use Rattle.notification_rules.specs.Loop.{loops_of, Pair, pairs_of}
 use Rattle.notification_rules.specs.Target.{Location, nowhere, somewhere, location_of, answers, first_pair}
 use Rattle.notification_rules.specs.Finding.{refusal, found, chosen, searched, finding_of}

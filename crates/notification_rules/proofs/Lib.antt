@@ -13,4 +13,5 @@ pub mod Reached
 pub mod Rewritten
 pub mod Sound
 pub mod Taken
+pub mod Told
 pub mod Written

@@ -22,8 +22,7 @@ use Rattle.rules.specs.Check.{checksum_form, shared_refusal, shared_lines, form_
 use Rattle.rules.specs.Section.{section_syntax_indicator}
 use Rattle.rules.proofs.Check.{shared_numbered}
 use Rattle.rules.proofs.Meaning.{gives_refusal, Place15}
-use Rattle.notification_rules.specs.declared.Finding.{Finding}
-use Rattle.notification_rules.specs.declared.Finding.TheVariants.{Found, Nobody, Refused}
+use Rattle.notification_rules.specs.Answers.{Finding, Found, Nobody, Refused}
 use Rattle.notification_rules.specs.Cut.{Cut, cut_of, every}
 use Rattle.notification_rules.specs.Format.{answer_to, Written, body_written, Descriptor, descriptor_written, Loop, loop_written, tag_of}
 use Rattle.notification_rules.specs.Loop.{action_type, body_length, content, loop_cut, loops_of, loop_size, Pair, pairs_of, platform_id_hash, tag}

@@ -11,7 +11,7 @@ use lib.ListN.{length}
 use Rattle.wire.specs.Bytes.{Bytes, bytes_of}
 use Rattle.rules.specs.Address.{address_bytes}
 use Rattle.rules.specs.Section.{sealed}
-use Rattle.notification_rules.specs.declared.Finding.{Finding}
+use Rattle.notification_rules.specs.Answers.{Finding}
 use Rattle.notification_rules.specs.Format.{answer_to, body_written, BothReached, Conforms, covered, Descriptor, Fits, FitsLoop, head_written, Held, location_in, location_to, Loop, notification_written, one, Reached, sample, sample_device, same_where, targets}
 use Rattle.notification_rules.proofs.Answered.{written_is_found}
 use Rattle.notification_rules.proofs.Bytes.{each_bytes}

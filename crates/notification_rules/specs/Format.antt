@@ -9,8 +9,7 @@ use Rattle.wire.specs.Part.{Part, part}
 use Rattle.rules.specs.declared.Address.{Address}
 use Rattle.rules.specs.Address.{address_bytes}
 use Rattle.rules.specs.Section.{sealed}
-use Rattle.notification_rules.specs.declared.Finding.{Finding}
-use Rattle.notification_rules.specs.declared.Finding.TheVariants.{Found, Nobody, Refused}
+use Rattle.notification_rules.specs.Answers.{Finding, Found, Nobody, Refused}
 use Rattle.notification_rules.specs.Finding.{finding_number, finding_of, finding_offset, part_of}
 
 -- ---- what a section holds

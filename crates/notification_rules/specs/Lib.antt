@@ -2,6 +2,8 @@ pub mod Cut
 pub mod Loop
 pub mod Range
 pub mod Target
+pub mod Answers
+pub mod Told
 pub mod Finding
 pub mod Format
 pub mod Meaning

@@ -1,10 +1,3 @@
-// What the INT reader answers. What it means is in specs/, the laws in proofs/; nothing here runs.
+// The INT reader's rules. Nothing runs here and no type is declared: what the reader answers, and what that means, is in specs/, the laws
+// in proofs/. The code's answers are std's own, `Result<Option<usize>, Refusal>`.
 #![tactic(auto)]
-
-// The offset of the nine bytes in the section, nobody, or the number of the first refusal that applies.
-#[derive(Clone, Copy)]
-pub enum Finding {
-    Found(usize),
-    Nobody,
-    Refused(u8),
-}

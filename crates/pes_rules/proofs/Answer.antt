@@ -2,15 +2,15 @@
 use Prim.Native.Nat.{ℕ, ◌≤◌}
 use native.Mathlib.Omega.{arith}
 use mathlib.Core.Path.{◌≡◌, refl}
-use mathlib.Core.List.{List}
+use mathlib.Core.List.{List, []}
 use mathlib.Core.Bool.{Bool, true, false}
 use lib.ListN.{length}
-use lib.Dec.{eqb}
+use lib.Dec.{eqb, lit<}
 use borrow.Author.Tests.{eq-eqb, eqb-true, ltb-false, ne_eqb}
-use Rattle.wire.specs.Choice.{pick, first, first_of}
-use Rattle.wire.proofs.Choice.{either_false}
-use Rattle.pes_rules.specs.declared.Reading.{Reading}
-use Rattle.pes_rules.specs.Packet.{data_offset, wrong_size, other_identifier, wrong_flags, wrong_header_length, refusal, refused, taken, read_of}
+use Rattle.wire.specs.Choice.{pick, both, first, first_of, without}
+use Rattle.wire.proofs.Choice.{either_false, first_of_without, none_first}
+use Rattle.pes_rules.specs.Reading.{Reading}
+use Rattle.pes_rules.specs.Packet.{data_offset, wrong_size, other_identifier, wrong_flags, wrong_header_length, refusal, refusal_lines, refused, taken, read_of}
 
 -- ---- the table
 pub record None (s : List ℕ) : Type 0 where
@@ -19,29 +19,16 @@ pub record None (s : List ℕ) : Type 0 where
   pub no42 : wrong_flags s ≡ false
   pub no43 : wrong_header_length s ≡ false
 
-first_not : (t : Bool) (n rest m : ℕ) → (n ≡ m → ⊥) → (rest ≡ m → ⊥) → first t n rest ≡ m → ⊥
-unfolding first
-first_not true n rest m h k e = h e
-first_not false n rest m h k e = k e
-
-first_past : (t : Bool) (n rest : ℕ) → (n ≡ 0 → ⊥) → first t n rest ≡ 0 → (t ≡ false) × (rest ≡ 0)
-unfolding first
-first_past true n rest h e = absurd (h e)
-first_past false n rest h e = (refl, e)
-
 not_five : (s : List ℕ) → refusal s ≡ 5 → ⊥
-unfolding first_of
-not_five s =
-    first_not _ _ _ 5 (λ e. omega arith) (first_not _ _ _ 5 (λ e. omega arith)
-    (first_not _ _ _ 5 (λ e. omega arith) (first_not _ _ 0 5 (λ e. omega arith) (λ e. omega arith))))
+unfolding without both
+not_five s = first_of_without 5 (refusal_lines s) refl (λ e. omega arith)
 
 pub no_refusal : (s : List ℕ) → refusal s ≡ 0 → None s
-unfolding first_of
 no_refusal s e =
-    let a = first_past _ _ _ (λ z. omega arith) e in
-    let b = first_past _ _ _ (λ z. omega arith) a.1 in
-    let c = first_past _ _ _ (λ z. omega arith) b.1 in
-    let d = first_past _ _ 0 (λ z. omega arith) c.1 in
+    let a = none_first _ _ (lit< tt) e in
+    let b = none_first _ _ (lit< tt) a.1 in
+    let c = none_first _ _ (lit< tt) b.1 in
+    let d = none_first _ [] (lit< tt) c.1 in
     record { no40 = a.0; no41 = b.0; no42 = c.0; no43 = d.0 }
 
 pub refusal_none : (s : List ℕ) → None s → refusal s ≡ 0

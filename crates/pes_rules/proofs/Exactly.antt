@@ -8,11 +8,11 @@ use lib.Seq.{slice}
 use mathlib.Core.Logic.{inl}
 use Rattle.wire.specs.Bytes.{bytes_of}
 use Rattle.wire.specs.Part.{part}
-use Rattle.pes_rules.specs.declared.Reading.{Reading}
+use Rattle.pes_rules.specs.Reading.{Reading}
 use Rattle.pes_rules.specs.Packet.{refusal, read_of, refused}
 use Rattle.pes_rules.specs.Written.{extension_field, flags_byte, Gives, optional_fields, OthersGiveNothing, packet_of, rate_field, SampleIsWritten, TakenExactly, zeros}
 use Rattle.pes_rules.proofs.Answer.{read_refused, read_taken}
-use Rattle.wire.proofs.Bytes.{cons_bytes}
+use Rattle.wire.proofs.Bytes.{cons_bytes, nil_bytes}
 use Rattle.pes_rules.proofs.Read.{taken_is_written}
 use Rattle.pes_rules.proofs.Written.{written_is_read}
 
@@ -44,8 +44,8 @@ sample_is_written = (
     extension = lit< tt;
     before_rate = lit< tt;
     rate = lit< tt;
-    skipped = λ i. lit< tt;
-    carried = cons_bytes 0xAA (0xBB ∷ []) (lit< tt) (cons_bytes 0xBB [] (lit< tt) (λ i. lit< tt));
+    skipped = nil_bytes;
+    carried = cons_bytes 0xAA (0xBB ∷ []) (lit< tt) (cons_bytes 0xBB [] (lit< tt) nil_bytes);
     size = lit≤ tt;
   },
   refl,

@@ -10,7 +10,7 @@ use borrow.Author.Tests.{eqb-false, eqb-true, not-true, ltb-true, lt-ltb}
 use Rattle.wire.specs.Bytes.{bit, bits, byte_at}
 use Rattle.wire.specs.Choice.{pick, both, first_of, without}
 use Rattle.wire.proofs.Meaning.{gives_last, gives_row, or_else_is, or_else, Tells, tells_both, tells_either, tells_eq, tells_lt, tells_not}
-use Rattle.pes_rules.specs.declared.Reading.{Reading}
+use Rattle.pes_rules.specs.Reading.{Reading}
 use Rattle.pes_rules.specs.Meaning.{PacketMeans}
 use Rattle.pes_rules.specs.Packet.{data_offset, refusal_lines, flagged, output_data_rate_flag, private_offset, pts_extension_flag, read_of, refused, taken}
 

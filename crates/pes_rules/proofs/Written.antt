@@ -9,15 +9,15 @@ use mathlib.Core.Bool.{Bool, true, false, cond, not}
 use lib.Arith.{digits_lt, digits_mod, lt-one}
 use lib.ListN.{length, drop, length-append}
 use lib.Seq.{drop_at, slice, take-length}
-use lib.Dec.{eqb, lit<}
+use lib.Dec.{eqb}
 use borrow.Author.Tests.{le-ltb}
 use Rattle.wire.specs.Bytes.{Bytes, number_at, bytes_of}
 use Rattle.wire.specs.Choice.{pick, both, either}
 use Rattle.wire.specs.Part.{part}
-use Rattle.wire.proofs.Bytes.{append_bytes, bytes_of_bytes, cons_bytes, length_bytes_of, number_at_bytes_of}
+use Rattle.wire.proofs.Bytes.{append_bytes, bytes_of_bytes, cons_bytes, length_bytes_of, nil_bytes, number_at_bytes_of}
 use Rattle.wire.proofs.Choice.{not_either}
-use Rattle.pes_rules.specs.Packet.{data_identifier, sub_stream_id, pts_extension_flag, output_data_rate_flag, pes_data_packet_header_length, flagged, pts_extension, rate_offset, output_data_rate, private_offset, data_offset, wrong_size, other_identifier, wrong_flags, wrong_header_length, taken, read_of}
-use Rattle.pes_rules.specs.declared.Reading.{Reading}
+use Rattle.pes_rules.specs.Packet.{pts_extension_flag, output_data_rate_flag, pes_data_packet_header_length, flagged, pts_extension, rate_offset, output_data_rate, private_offset, data_offset, wrong_size, other_identifier, wrong_flags, wrong_header_length, taken, read_of}
+use Rattle.pes_rules.specs.Reading.{Reading}
 use Rattle.pes_rules.specs.Written.{Conforms, extension_field, flags_byte, optional_fields, packet_of, PacketIsBytes, rate_field, reading_of, Stream, Values, WrittenIsRead}
 use Rattle.pes_rules.proofs.Answer.{refusal_none, None, read_taken}
 
@@ -51,7 +51,7 @@ length_field false n x = refl
 
 field_bytes : (flag : Bool) (n x : ℕ) → Bytes (cond flag (bytes_of n x) [])
 field_bytes true n x = bytes_of_bytes n x
-field_bytes false n x = λ i. lit< tt
+field_bytes false n x = nil_bytes
 
 module _ (n j k high low : ℕ) (p q : List ℕ) (w : 2 ^ j * 2 ^ k ≡ 256 ^ n) where
   abbrev joined : Bool → List ℕ

@@ -5,7 +5,7 @@ use Rattle.std.proofs.Math.Seq.{slice}
 use Rattle.wire.specs.Bytes.{byte_at, bit, number_at}
 use Rattle.wire.specs.Choice.{pick, both, either, Line, line, first_of}
 use Rattle.wire.specs.Part.{Part, part}
-use Rattle.pes_rules.specs.declared.Reading.{Reading}
+use Rattle.pes_rules.specs.Reading.{Reading}
 
 -- byte 0
 abbrev pub data_identifier : List ℕ → ℕ

@@ -1,15 +1,32 @@
-// What is read of a PES data packet. What it means is in specs/, the laws in proofs/; nothing here runs.
+// What is read of a PES data packet, or why it is refused. What it means is in specs/, the laws in proofs/; nothing here runs but the number of
+// a refusal.
 #![tactic(auto)]
 
-// The answer, 5 or the number of a refusal; PTS_extension_flag and output_data_rate_flag; PTS_extension and output_data_rate,
-// 0 where unflagged; and where in the packet the data begins and ends. A refusal has zeros after its number.
+ghost use Rattle.std.specs.Prelude.{◌≡◌};
+ghost use Rattle.pes_rules.specs.Told.{number};
+
+// Why a packet is refused, the first reason that applies; the discriminants are the paper's numbers.
+#[derive(Clone, Copy, Debug, PartialEq, Eq)]
+pub enum Refusal {
+    Length = 40,
+    DataIdentifier = 41,
+    Flags = 42,
+    HeaderLength = 43,
+}
+
+impl From<Refusal> for u8 {
+    ghost from_gives = { λ r n. n ≡ number r };
+
+    fn from(refusal: Refusal) -> u8 {
+        refusal as u8
+    }
+}
+
+// What is read of a packet: PTS_extension and output_data_rate where they are flagged, and where in the packet the data begins and ends.
 #[derive(Clone, Copy)]
-pub struct Reading {
-    pub answer: u8,
-    pub extended: bool,
-    pub rated: bool,
-    pub extension: u16,
-    pub rate: u32,
+pub struct Packet {
+    pub extension: Option<u16>,
+    pub rate: Option<u32>,
     pub offset: usize,
     pub end: usize,
 }

@@ -24,12 +24,10 @@ pub fn listing_settings() -> Settings
     }
 }
 
-// How many of the bytes left are offered next: 3 + section_length, whatever the table_id, or what is left.
+// How many of the bytes left are offered next: 3 + section_length, whatever the table_id, or what is left. Of fewer than 3 bytes all are offered.
+#[tactic(auto, unfolding(rules::specs::Recording::offer_length, wire::specs::Choice::pick))]
 pub fn offer_length(s: &[u8]) -> usize
     ensures { result ≡ offer_length s.now }
 {
-    if s.len() < 3 {
-        return s.len();
-    }
-    wire::smaller(3 + section_fields::section_length(s), s.len())
+    (3 + section_fields::section_length(s)).min(s.len())
 }

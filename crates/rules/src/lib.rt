@@ -70,13 +70,12 @@ pub enum Refusal {
     IpDatagram = 54,
 }
 
-impl Refusal {
-    // The papers' number.
+impl From<Refusal> for u8 {
+    ghost from_gives = { λ r n. n ≡ number r };
+
     #[tactic(auto, unfolding(crate::specs::Told::number))]
-    pub fn number(self) -> u8
-        ensures { result ≡ number self }
-    {
-        self as u8
+    fn from(refusal: Refusal) -> u8 {
+        refusal as u8
     }
 }
 

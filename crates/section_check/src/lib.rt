@@ -4,7 +4,7 @@
 
 ghost use Rattle.std.specs.Prelude.{◌≡◌};
 ghost use Rattle.wire.specs.Choice.{first_of};
-ghost use Rattle.rules.specs.Check.{too_short, other_table, wrong_length, checksum_form, wrong_syntax, wrong_crc, not_current, out_of_order, address_scrambled, form_lines, order_lines, shared_refusal, datagram_form, check};
+ghost use Rattle.rules.specs.Check.{too_short, other_table, wrong_length, checksum_form, wrong_syntax, wrong_crc, not_current, out_of_order, address_scrambled, form_lines, order_lines, shared_refusal, check};
 ghost use Rattle.rules.specs.Told.{refusal_number};
 
 use rules::{Form, Refusal};
@@ -116,6 +116,7 @@ fn order_refusal(s: &[u8]) -> Result<(), Refusal>
 
 // The first of 12 to 18 and 24 that applies to a section of this form. The CRC_32 is computed only where 12 to 15 and 24 leave it to: in the
 // checksum form there is none, and the last four bytes are not looked at.
+#[tactic(auto, unfolding(rules::specs::Told::number, rules::specs::Told::refusal_number, rules::specs::Check::shared_refusal, rules::specs::Check::shared_lines, wire::specs::Choice::first_of, wire::specs::Choice::first), using(wire::proofs::Choice::first_of_here, wire::proofs::Choice::first_of_past, rules::proofs::Check::form_numbered, rules::proofs::Told::numbered))]
 pub fn shared_refusal(form: Form, s: &[u8]) -> Result<(), Refusal>
     ensures { refusal_number result ≡ shared_refusal form s.now }
 {
@@ -127,21 +128,18 @@ pub fn shared_refusal(form: Form, s: &[u8]) -> Result<(), Refusal>
 }
 
 // The datagram section's form.
-fn datagram_form() -> Form
-    ensures { result ≡ datagram_form }
-{
-    Form {
-        fewest: 16,
-        table: 0x3e,
-        private: true,
-    }
-}
+const DATAGRAM: Form = Form {
+    fewest: 16,
+    table: 0x3e,
+    private: true,
+};
 
 // The first of 12 to 19 and 24 that applies to a datagram section.
+#[tactic(auto, unfolding(rules::specs::Told::number, rules::specs::Told::refusal_number, rules::specs::Check::shared_refusal, rules::specs::Check::check_lines, rules::specs::Check::check, wire::specs::Choice::first_of, wire::specs::Choice::first), using(wire::proofs::Choice::first_of_here, wire::proofs::Choice::first_of_past, rules::proofs::Check::shared_numbered, rules::proofs::Told::numbered))]
 pub fn check(s: &[u8]) -> Result<(), Refusal>
     ensures { refusal_number result ≡ check s.now }
 {
-    shared_refusal(datagram_form(), s)?;
+    shared_refusal(DATAGRAM, s)?;
     if address_scrambled(s) {
         return Err(Refusal::AddressScrambling);
     }

@@ -8,13 +8,15 @@ ghost use Rattle.wire.specs.Choice.{pick};
 use rules::Address;
 
 // The header of a section that is as long as `length`, its section_length, says, of which the low 12 bits are written.
+#[tactic(auto, unfolding(rules::specs::Section::header))]
 pub fn header(a: Address, llc_snap: bool, number: u8, last: u8, length: u16) -> [u8; 12]
     ensures { result ≡ header a llc_snap number last length }
 {
+    let [high, low] = length.to_be_bytes();
     [
         0x3e,
-        (0xb0 + length / 256 % 16) as u8,
-        (length % 256) as u8,
+        0xb0 + high % 16,
+        low,
         a.mac6,
         a.mac5,
         flags(llc_snap),
@@ -28,6 +30,7 @@ pub fn header(a: Address, llc_snap: bool, number: u8, last: u8, length: u16) -> 
 }
 
 // Reserved bits and current_next_indicator are ones, both scrambling controls zeros.
+#[tactic(auto, unfolding(wire::specs::Choice::pick))]
 fn flags(llc_snap: bool) -> u8
     ensures { result ≡ pick llc_snap 0xC3 0xC1 }
 {

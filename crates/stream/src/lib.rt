@@ -2,26 +2,18 @@
 // failed is told in one word. What the system moves cannot be said in a contract: a contract says what was answered and handed over.
 #![tactic(auto)]
 
-ghost use Rattle.std.specs.Prelude.{◌≡◌, true, length};
-ghost use Rattle.io.specs.Counts.{IsPrefixLen};
-ghost use Rattle.stream.specs.Words.{Filled, word_of};
+ghost use Rattle.std.specs.Prelude.{◌≡◌, Ok, IfSome, IsOkUnless, length};
+ghost use Rattle.stream.specs.declared.Failure.TheVariants.{Reading, Writing};
+ghost use Rattle.stream.specs.Words.{Filled, Moved, word_of};
 
 use std::io::{Error, ErrorKind, Read, Write};
 use std::rt::Clock;
 use std::thread;
 use std::time::Duration;
 
-// What a read gave: so many bytes at the start of the buffer, 0 at the end of the input, or nothing, since it failed.
-#[derive(Clone, Copy)]
-pub enum Input {
-    Bytes(usize),
-    Unreadable,
-}
-
 // Why a program's work is not done.
 #[derive(Clone, Copy)]
 pub enum Failure {
-    Nothing,
     Reading,
     Writing,
     Refused,
@@ -49,73 +41,79 @@ fn again(clock: &impl Clock, error: Error) -> bool {
     false
 }
 
-// One read of the input, which may give one byte. A proved loop has to end, and nothing says that the wait does: the turns count
-// down from a number that no wait uses up.
-pub fn read_some(clock: &impl Clock, input: &mut impl Read, buffer: &mut [u8]) -> Input
-    ensures { Filled result buffer.new }
+// Makes a call until it moves something, or fails for good. A proved loop has to end, and nothing says that the wait does: no wait
+// uses up so many turns. The call is handed what it changes, so that it is the same call each time.
+fn retry<S, F: Fn(&mut S, &mut [u8]) -> std::io::Result<usize>>(
+    clock: &impl Clock,
+    stream: &mut S,
+    buffer: &mut [u8],
+    call: F,
+) -> Option<usize>
+    requires { F.IsAlwaysCallable call }
+    ensures { IfSome result (λ n. Moved (F.post call) n buffer.new) }
 {
-    let mut turns = u64::MAX;
-    while turns > 0 {
-        match input.read(buffer) {
-            Ok(n) => return Input::Bytes(n),
+    for _ in 0..u64::MAX {
+        match call(stream, buffer) {
+            Ok(moved) => return Some(moved),
             Err(error) => {
                 if !again(clock, error) {
                     break;
                 }
             }
         }
-        turns -= 1;
     }
-    Input::Unreadable
+    None
 }
 
-// One write, of a byte or more; 0 where it fails.
-fn write_some(clock: &impl Clock, output: &mut impl Write, text: &[u8]) -> usize
-    ensures { IsPrefixLen result text.now }
+// One read of the input, which may give one byte: how many bytes it gave at the start of the buffer, 0 at the end of the input.
+pub fn read_some(
+    clock: &impl Clock,
+    input: &mut impl Read,
+    buffer: &mut [u8],
+) -> Result<usize, Failure>
+    ensures filled { Filled result buffer.new }
+    ensures failed { IsOkUnless result Reading }
 {
-    let mut tries = u64::MAX;
-    while tries > 0 {
-        match output.write(text) {
-            Ok(put) => return put,
-            Err(error) => {
-                if !again(clock, error) {
-                    break;
-                }
-            }
-        }
-        tries -= 1;
-    }
-    0
+    retry(clock, input, buffer, |input, buffer| input.read(buffer)).ok_or(Failure::Reading)
 }
 
-// Writes all of the text, each write after the bytes that the last one took, or answers that it failed. An empty text cannot fail.
-pub fn write_whole(clock: &impl Clock, output: &mut impl Write, text: &[u8]) -> bool
-    ensures { length text.now ≡ 0 → result ≡ true }
+// One write, of a byte or more unless it fails. It changes no buffer.
+fn write_some(clock: &impl Clock, output: &mut impl Write, text: &[u8]) -> Result<usize, Failure>
+    ensures put { Filled result text.now }
+    ensures failed { IsOkUnless result Writing }
+{
+    retry(clock, output, &mut [], |output, _| output.write(text)).ok_or(Failure::Writing)
+}
+
+// Writes all of the text, each write after the bytes that the last one took. An empty text cannot fail.
+pub fn write_whole(clock: &impl Clock, output: &mut impl Write, text: &[u8]) -> Result<(), Failure>
+    ensures empty { length text.now ≡ 0 → result ≡ Ok tt }
+    ensures failed { IsOkUnless result Writing }
 {
     let mut rest = text;
-    while rest.len() > 0 {
-        let put = write_some(clock, output, rest);
+    while !rest.is_empty() {
+        let put = write_some(clock, output, rest)?;
         if put == 0 {
-            return false;
+            return Err(Failure::Writing);
         }
         rest = &rest[put..];
     }
-    true
+    Ok(())
 }
 
-// The one write to the listener: what it is given has to be the failure's word. It is the kit's, which writes to a number; std has none.
-fn tell(failure: Failure, word: &[u8])
-    requires { word.now ≡ word_of failure }
+// The one write to the listener: what it is given has to be the work's word. It is the kit's, which writes to a number; std has none.
+fn tell(outcome: Result<(), Failure>, word: &[u8])
+    requires { word.now ≡ word_of outcome }
 {
     io::write_all(LISTENER, word);
 }
 
 // Tells the listener why the work is not done; where it is done, nothing is told.
-pub fn say(failure: Failure) {
-    match failure {
-        Failure::Nothing => tell(failure, b""),
-        Failure::Reading => tell(failure, b"input\n"),
-        Failure::Writing => tell(failure, b"output\n"),
-        Failure::Refused => tell(failure, b"refused\n"),
+pub fn say(outcome: Result<(), Failure>) {
+    match outcome {
+        Ok(()) => tell(outcome, b""),
+        Err(Failure::Reading) => tell(outcome, b"input\n"),
+        Err(Failure::Writing) => tell(outcome, b"output\n"),
+        Err(Failure::Refused) => tell(outcome, b"refused\n"),
     }
 }

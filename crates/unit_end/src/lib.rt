@@ -4,7 +4,7 @@
 
 ghost use Rattle.std.specs.Prelude.{◌≡◌, ◌≤◌, ◌++◌, length};
 ghost use Rattle.wire.specs.Bytes.{byte_at, number_at};
-ghost use Rattle.rules.specs.UnitEnd.{version, end_within, datagram_end, unit_end};
+ghost use Rattle.rules.specs.UnitEnd.{version, total_length, payload_length, end_within, datagram_end, unit_end};
 
 use std::marker::Model;
 use wire::byte_at;
@@ -57,14 +57,30 @@ impl<'a> Joined<'a> {
         self.byte(0) / 16
     }
 
-    #[tactic(auto, unfolding(rules::specs::UnitEnd::datagram_end, rules::specs::UnitEnd::total_length, rules::specs::UnitEnd::payload_length, wire::specs::Choice::pick))]
+    // Of version 4: RFC 791, section 3.1.
+    #[tactic(auto, unfolding(rules::specs::UnitEnd::total_length))]
+    fn total_length(&self) -> u16
+        ensures { result ≡ total_length self.now }
+    {
+        self.u16(2)
+    }
+
+    // Of version 6, what follows its header of 40 bytes: RFC 8200, section 3.
+    #[tactic(auto, unfolding(rules::specs::UnitEnd::payload_length))]
+    fn payload_length(&self) -> u16
+        ensures { result ≡ payload_length self.now }
+    {
+        self.u16(4)
+    }
+
+    #[tactic(auto, unfolding(rules::specs::UnitEnd::datagram_end, wire::specs::Choice::pick))]
     fn datagram_end(&self) -> Option<usize>
         ensures { result ≡ datagram_end self.now }
     {
         let there = self.len();
         match self.version() {
-            4 => end_within(there, 20, usize::from(self.u16(2))),
-            6 => end_within(there, 40, 40 + usize::from(self.u16(4))),
+            4 => end_within(there, 20, usize::from(self.total_length())),
+            6 => end_within(there, 40, 40 + usize::from(self.payload_length())),
             _ => None,
         }
     }

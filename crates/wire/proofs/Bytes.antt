@@ -1,4 +1,4 @@
--- Bytes past the end are 0, a number's bytes, written and read, are the number, and bytes side by side are bytes.
+-- A number's bytes, written and read, are the number, and bytes side by side are bytes.
 use Prim.Native.Nat.{ℕ, zero, suc, ◌+◌, ◌*◌, ◌/◌, ◌%◌, ◌^◌, ◌≤◌, ◌<◌}
 use native.Mathlib.Nat.{mod-eq_of_lt, mod-lt, mod-one, mul_assoc, mul-add-div_right, mul-add-mod_self_right, one-le-pow, pow-succ'}
 use native.Mathlib.Numerals.{add-one}
@@ -7,29 +7,9 @@ use mathlib.Core.Path.{◌≡◌, refl, sym, ap, ap₂, ◌∙◌}
 use mathlib.Core.List.{List, [], ◌∷◌, ◌++◌}
 use lib.Arith.{digits_div, digits_lt, mod-mul}
 use lib.Dec.{lit<}
-use lib.ListN.{length, take, drop, length-append, get_or-eq_default}
+use lib.ListN.{length, take, drop, length-append}
 use lib.Seq.{append_snoc, drop-cons, get_or-append_seam}
 use Rattle.wire.specs.Bytes.{Bytes, byte_at, number_at, bytes_of}
-
--- nothing stands past the end
-pub number_at_past : (n : ℕ) (s : List ℕ) (i : ℕ) → length s ≤ i → number_at n s i ≡ 0
-unfolding number_at
-number_at_past zero s i h = refl
-number_at_past (suc n) s i h =
-    let z : byte_at s i ≡ 0 = get_or-eq_default s 0 h in
-    let r : number_at n s (i + 1) ≡ 0 = number_at_past n s (i + 1) (omega arith) in
-    rw (z, r) (omega arith)
-
--- four bytes are two and two
-pub number_at_four : (s : List ℕ) (i : ℕ) → number_at 4 s i ≡ number_at 2 s i * 65536 + number_at 2 s (i + 2)
-unfolding number_at
-number_at_four s i =
-    let e : i + 1 + 1 ≡ i + 2 = omega arith in
-    rw e (omega arith)
-
--- nothing of the second two stands there
-pub number_at_half : (s : List ℕ) (i : ℕ) → length s ≤ i + 2 → number_at 4 s i ≡ number_at 2 s i * 65536
-number_at_half s i h = omega (arith, number_at_four s i, number_at_past 2 s (i + 2) h)
 
 pub length_bytes_of : (n x : ℕ) → length (bytes_of n x) ≡ n
 unfolding bytes_of

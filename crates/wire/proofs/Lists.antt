@@ -1,13 +1,11 @@
 -- Parts of lists put side by side: each law is the library's on `take` and `drop`, at the lengths that the code has.
-use Prim.Native.Nat.{ℕ, suc, ◌+◌, ◌-◌, ◌≤◌, ◌<◌, min}
-use native.Mathlib.Decide.{dec_le}
+use Prim.Native.Nat.{ℕ, suc, ◌+◌, ◌-◌, ◌<◌}
 use native.Mathlib.Numerals.{add-one}
 use native.Mathlib.Omega.{arith}
 use mathlib.Core.Path.{◌≡◌}
 use mathlib.Core.List.{List, ◌++◌}
-use lib.ListN.{length, get_or, set, take, drop, drop_of_length-le, length-drop}
-use lib.Seq.{append_snoc, drop-cons, length-take-le, set_at, take_all, take-length, take-suc, drop-length}
-use Rattle.wire.specs.Bytes.{over}
+use lib.ListN.{length, get_or, set, take, drop, length-drop}
+use lib.Seq.{append_snoc, drop-cons, length-take-le, set_at, take_all, take-suc}
 
 -- the part of a slice from k on is what `drop k` leaves
 pub from : (k : ℕ) (s : List ℕ) → take (length s - k) (drop k s) ≡ drop k s
@@ -19,14 +17,3 @@ pub over_step : (s d : List ℕ) (i : ℕ) → i < length s → i < length d
 over_step s d i hs hd =
     let l : length (take i s) ≡ i = length-take-le i s (omega arith) in
     rw (add-one i, drop-cons d i 0 hd, set_at (take i s) (get_or d i 0) (drop (suc i) d) (get_or s i 0) i l, take-suc s i 0 hs, append_snoc)
-
--- all of s that fits is over d
-pub over_end : (s d : List ℕ) (n : ℕ) → n ≡ min (length s) (length d) → take n s ++ drop n d ≡ over s d
-over_end s d n e = go (dec_le (length s) (length d))
-  where
-    go : Dec (length s ≤ length d) → take n s ++ drop n d ≡ over s d
-    go (yes h) = let m : n ≡ length s = omega arith in rw (m, take-length, take_all (length d) s h)
-    go (no h) =
-        let m : n ≡ length d = omega arith in
-        let l : length d ≤ length s = omega arith in
-        rw (m, drop-length, drop_of_length-le d l)

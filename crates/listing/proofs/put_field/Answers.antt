@@ -1,19 +1,11 @@
--- A number has up to 20 digits, and the byte stands after them.
-use Rattle.std.proofs.Common.{arith}
-use Rattle.listing.specs.Text.{field}
-use Rattle.listing.proofs.Text.{decimal_short}
-use Rattle.wire.proofs.Puts.{puts_length, puts_then}
+-- The digits and the byte after them are the field.
+use Rattle.std.proofs.Common.{◌++◌, ◌∷◌, [], ap, ◌∙◌}
+use Rattle.listing.proofs.Text.{put_field}
 use Rattle.listing.proofs.put_field.Goals as goal
 
-pub put_decimal-end-requires : goal.put_decimal-end-requires
-put_decimal-end-requires c = omega (arith, c.requires, decimal_short c.args.n)
-
-pub put_byte-requires : goal.put_byte-requires
-put_byte-requires c =
-    let p = c.put_decimal-end.ensures in
-    omega (arith, c.requires, p.end, puts_length p, decimal_short c.args.n)
-
-pub returns : goal.returns
-unfolding field
-returns c =
-    puts_then c.put_decimal-end.ensures c.put_byte.ensures
+pub returns-clause-text : goal.returns-clause-text
+returns-clause-text c =
+    let a = c.args in
+    c.push.ensures.ascii c.requires.ascii
+    ∙ ap (λ b. b ++ (a.mark ∷ [])) c.push_str.ensures.bytes
+    ∙ put_field a.lines.now.bytes a.n a.mark c.ranges.n.fits c.format.ensures.text

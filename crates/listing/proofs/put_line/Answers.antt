@@ -1,24 +1,15 @@
--- Three fields of up to 21 bytes stand after each other.
-use Rattle.std.proofs.Common.{arith}
-use Rattle.listing.proofs.Text.{put_line, field_end}
-use Rattle.wire.proofs.Puts.{puts_length}
+-- Three fields stand after each other.
+use Rattle.std.proofs.Common.{◌++◌, ap, ◌∙◌}
+use Rattle.rules.specs.Told.{answer_told}
+use Rattle.listing.specs.Text.{field}
+use Rattle.listing.proofs.Text.{put_line}
 use Rattle.listing.proofs.put_line.Goals as goal
-
-pub put_field-third-requires : goal.put_field-third-requires
-put_field-third-requires c =
-    let p = c.put_field-second.ensures in
-    omega (arith, c.requires, field_end _ _ p, puts_length p)
-
-pub put_field-requires : goal.put_field-requires
-put_field-requires c =
-    let p = c.put_field-second.ensures in
-    let q = c.put_field-third.ensures in
-    omega (arith, c.requires, field_end _ _ p, puts_length p, field_end _ _ q, puts_length q)
 
 pub returns : goal.returns
 returns c =
     let a = c.args in
-    put_line a.offset a.answer c.number_of-number.ensures c.length_of-length.ensures
-    c.put_field-second.ensures
-    c.put_field-third.ensures
-    c.put_field.ensures
+    let number = c.number_of-number.result in
+    let length = c.length_of-length.result in
+    c.put_field-3.ensures.text
+    ∙ ap (λ b. b ++ field length 10) (c.put_field-2.ensures.text ∙ ap (λ b. b ++ field number 32) c.put_field.ensures.text)
+    ∙ put_line a.lines.now.bytes a.offset (answer_told a.answer) c.number_of-number.ensures c.length_of-length.ensures

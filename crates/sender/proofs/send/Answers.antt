@@ -1,20 +1,15 @@
 -- The outcome is the one that was decided.
+use Rattle.std.proofs.lemmas.Result.{err_from_is_err_and}
 use Rattle.sender.proofs.Sent.{refused, sent}
 use Rattle.sender.proofs.send.Goals as goal
 
-pub put_sections-requires : goal.put_sections-requires
-put_sections-requires c =
-    let plan = rw c.in-Cut.is at c.decide.ensures in
-    record { out_value = plan.1; count_value = plan.0 }
-
-pub returns-in-Refused : goal.returns-in-Refused
-returns-in-Refused c =
+pub returns-in_err-count : goal.returns-in_err-count
+returns-in_err-count c =
     let a = c.args in
-    let plan = rw c.in-Refused.is at c.decide.ensures in
-    refused a.settings a.llc_snap a.size a.unit.now a.out.now plan.1 plan.0
+    let p = err_from_is_err_and c.from_residual.result c.from_residual.ensures.1 in
+    rw (p.1, p.2) (refused a.settings a.llc_snap a.size a.unit.now a.out.now c.in_err-count.ensures)
 
-pub returns-in-Cut : goal.returns-in-Cut
-returns-in-Cut c =
+pub returns : goal.returns
+returns c =
     let a = c.args in
-    let plan = rw c.in-Cut.is at c.decide.ensures in
-    sent a.settings a.llc_snap a.size a.unit.now a.out.now plan.1 c.put_sections.ensures
+    sent a.settings a.llc_snap a.size a.unit.now a.out.now c.in_ok-count.ensures.1 c.put_sections.ensures

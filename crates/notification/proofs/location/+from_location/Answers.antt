@@ -3,18 +3,17 @@ use Rattle.notification_rules.proofs.Items.{descriptor_two}
 use Rattle.wire.proofs.Lists.{from}
 use Rattle.wire.proofs.Choice.{was}
 use Rattle.notification.proofs.Locations.{reaches_end, reaches_here, reaches_more}
-use mathlib.Core.Path.{◌∙◌}
-use lib.ListN.{length, length-drop}
+use mathlib.Core.Path.{refl, ◌∙◌}
+use lib.ListN.{length-drop}
 use native.Mathlib.Omega.{arith}
 use Rattle.notification.proofs.location.+from_location.Goals as goal
 
 pub returns-then-s-size : goal.returns-then-s-size
-returns-then-s-size t c = let s = c.args.s.now in
-    reaches_end s _ _ c.descriptor_size-size.ensures.is c.if-s-size.true (from (length s) s)
+returns-then-s-size t c = reaches_end c.args.s.now _ c.descriptor_size-size.ensures.is c.if-s-size.true
 
 pub returns-then-byte_at-eq19 : goal.returns-then-byte_at-eq19
 returns-then-byte_at-eq19 t c =
-    reaches_here c.args.s.now _ c.descriptor_size-size.ensures.is (omega arith) (was c.byte_at.ensures.is c.if-byte_at-eq19.true)
+    reaches_here c.args.s.now c.args.s _ refl c.descriptor_size-size.ensures.is (omega arith) (was c.byte_at.ensures.is c.if-byte_at-eq19.true)
 
 pub from_location-requires : goal.from_location-requires
 from_location-requires t c =

@@ -11,8 +11,8 @@ pub returns-then-rest-lt9 : goal.returns-then-rest-lt9
 returns-then-rest-lt9 c = λ h. let a = c.args in
     absurd (omega (arith, h, c.if-rest-lt9.true, ap length c.after-rest.ensures.bytes ∙ length-drop a.offset a.s.now))
 
-pub slice_bounds-result-end-2 : goal.slice_bounds-result-end-2
-slice_bounds-result-end-2 c = sym (length-take-le _ c.after-rest.result.now (omega arith))
+pub slice_bounds-result-end : goal.slice_bounds-result-end
+slice_bounds-result-end c = sym (length-take-le _ c.after-rest.result.now (omega arith))
 
 pub returns : goal.returns
 returns c = λ h.

@@ -1,5 +1,0 @@
--- There are fewer digits before the last.
-use Rattle.listing.proofs.+put_decimal.Given as goal
-
-abbrev pub decreases-put_decimal : goal.decreases-put_decimal
-decreases-put_decimal l = l.n
