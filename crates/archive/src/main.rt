@@ -58,7 +58,7 @@ fn archive<'a>(
 // The refusal's number and a line's end, to the error output. `writeln!` would give up where a write has to be made again.
 fn tell(clock: &impl Clock, errors: &mut impl Write, refusal: Refusal) {
     let mut text = [0u8; 20];
-    let k = io::decimal(u64::from(refusal.number()), &mut text);
+    let k = io::decimal(u64::from(u8::from(refusal)), &mut text);
     let _ = write_whole(clock, errors, &text[..k]);
     let _ = write_whole(clock, errors, b"\n");
 }
