@@ -28,7 +28,7 @@ added a [] v = a
 added a (m ∷ ms) v = added (bit_xor a (moved m v)) ms v
 
 -- v added to its own shifts, list after list
-unfoldable pub product : List (List Shift) → ℕ → ℕ
+abbrev pub product : List (List Shift) → ℕ → ℕ
 product [] v = v
 product (ms ∷ mss) v = product mss (added v ms v)
 
@@ -58,7 +58,6 @@ added_apart (m ∷ ms) a b v =
     ap (λ x. added x ms v) (xor_assoc a b (moved m v)) ∙ added_apart ms a (bit_xor b (moved m v)) v
 
 pub product_add : (mss : List (List Shift)) → Adds (product mss)
-unfolding product
 product_add [] a b = refl
 product_add (ms ∷ mss) a b = ap (product mss) (added_add ms a b a b) ∙ product_add mss (added a ms a) (added b ms b)
 

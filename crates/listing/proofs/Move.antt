@@ -1,28 +1,12 @@
 -- A move to the start of a buffer leaves the bytes at hand the same, and so does a read after them.
-use Rattle.std.proofs.Common.{◌≡◌, ℕ, ◌+◌, ◌-◌, ◌≤◌, Bool, true, false, List, ◌++◌, length, take, drop, sym, refl, ap, ◌∙◌, arith, length-drop, take-append-drop, length-take-le, take-take, take_at, eqb-true}
+use Rattle.std.proofs.Common.{◌≡◌, ℕ, Result, ◌+◌, ◌-◌, ◌≤◌, Bool, true, false, List, ◌++◌, length, take, drop, sym, refl, ap, ◌∙◌, arith, length-drop, take-append-drop, length-take-le, take-take, eqb-true}
 use lib.Seq.{take-append-le, drop-append-le}
 use Rattle.wire.specs.Choice.{either}
 use Rattle.wire.proofs.Choice.{never}
-use Rattle.stream.specs.declared.Input.{Input}
+use Rattle.stream.specs.declared.Failure.{Failure}
 use Rattle.stream.specs.Words.{count_of}
 use Rattle.listing.specs.declared.Window.{Window}
 use Rattle.listing.specs.Walk.{has_ended, Came, Kept}
-
-pub kept_move : {r : Window} (w : Window) (after : List ℕ) → r.bytes ≡ take (w.end - w.start) (drop w.start w.bytes) ++ after
-    → r.start ≡ 0 → r.end ≡ w.end - w.start → r.rest ≡ w.rest → Kept w r
-kept_move {r = r} w after q x y t =
-    let n : ℕ = w.end - w.start in
-    let z : r.end - r.start ≡ n = omega (arith, x, y) in
-    let hand : List ℕ = take n (drop w.start w.bytes) in
-    let l : length hand ≡ n = length-take-le n (drop w.start w.bytes) (omega (arith, w.within, length-drop w.start w.bytes)) in
-    record {
-      left = λ rest p. record {
-        front = rw (z, x) at p.front ∙ ap (take n) q ∙ take_at hand after n l;
-        all = λ e. omega (arith, p.all (rw t e), z);
-      };
-      ended = λ e. z;
-      unreadable = λ e. rw t e;
-    }
 
 -- what stands before e is the same, whatever is read after it
 front : (b ys : List ℕ) (s e : ℕ) → s ≤ e → e ≤ length b → take (e - s) (drop s (take e b ++ ys)) ≡ take (e - s) (drop s (take e b))
@@ -44,7 +28,7 @@ still true e = refl
 still false e = e
 
 -- w as it was before a read, v as it is after it, and r with what it gave
-pub kept_read : {got : Input} {v r : Window} (w : Window) (ys : List ℕ) → has_ended w.rest ≡ false
+pub kept_read : {got : Result ℕ Failure} {v r : Window} (w : Window) (ys : List ℕ) → has_ended w.rest ≡ false
     → v.bytes ≡ take w.end w.bytes ++ ys → v.start ≡ w.start → v.end ≡ w.end → v.rest ≡ w.rest → Came v got r → Kept w r
 kept_read {got = got} {v = v} {r = r} w ys o q x y t k =
     let b : List ℕ = w.bytes in

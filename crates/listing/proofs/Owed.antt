@@ -1,5 +1,5 @@
 -- An offer that is whole at hand is the next offer of the recording, so its line is the next that is owed.
-use Rattle.std.proofs.Common.{◌≡◌, ℕ, ◌+◌, ◌-◌, ◌%◌, ◌^◌, ◌<◌, ◌≤◌, Bool, true, false, not, ltb, ◌⊎◌, List, [], ◌∷◌, ◌++◌, length, take, drop, replicate, sym, refl, ap, ◌∙◌, inl, inr, true≢false, append_assoc, append-nil, arith, length-append, length-drop, length-take, length-take-le, take_all, drop-drop, take_at, take-add, take-take, drop_at, ltb-false, le-leb, leb-true}
+use Rattle.std.proofs.Common.{◌≡◌, ℕ, Result, Ok, IsOkUnless, ◌+◌, ◌-◌, ◌%◌, ◌^◌, ◌<◌, ◌≤◌, Bool, true, false, not, ltb, List, [], ◌∷◌, ◌++◌, length, take, drop, replicate, sym, refl, ap, ◌∙◌, inl, inr, true≢false, append_assoc, append-nil, arith, length-append, length-drop, length-take, length-take-le, take_all, drop-drop, take_at, take-add, take-take, drop_at, ltb-false, le-leb, leb-true}
 use lib.Seq.{take-append-add}
 use Rattle.wire.specs.Choice.{pick, both, either}
 use Rattle.wire.proofs.Choice.{either_false}
@@ -9,13 +9,13 @@ use Rattle.rules.specs.declared.State.TheVariants.{Idle}
 use Rattle.rules.specs.Recording.{listing_settings, offer_length, offers_within, offers}
 use Rattle.rules.specs.Step.{Outcome}
 use Rattle.rules.proofs.Offer.{offer_long, offer_within, offer_some, offers_more, section_length_front}
-use Rattle.listing.specs.declared.Stand.{Stand}
-use Rattle.listing.specs.declared.Stand.TheVariants.{Going, Done, Failed}
+use Rattle.stream.specs.declared.Failure.{Failure}
+use Rattle.stream.specs.declared.Failure.TheVariants.{Writing}
 use Rattle.listing.specs.declared.Window.{Window}
 use Rattle.listing.specs.declared.Walk.{Walk}
 use Rattle.listing.specs.Text.{line}
 use Rattle.listing.specs.Lines.{lines_of, listing}
-use Rattle.listing.specs.Walk.{has_ended, is_done, is_failed, at_hand, Left, whole, ready, Same, Stays, Kept, offered, outcome_of, Served, full, due, Wrote, Gave, written, owed, Offered, Unread, Waits, Turned}
+use Rattle.listing.specs.Walk.{has_ended, at_hand, Left, whole, ready, Same, Stays, Kept, offered, outcome_of, Served, full, due, Gave, written, owed, Offered, Unread, Waits, Turned}
 
 -- ---- an offer within the bytes at hand
 hand_length : (w : Window) → length (at_hand w) ≡ w.end - w.start
@@ -85,10 +85,6 @@ nothing : (w : Walk) → Quiet w → written w ≡ []
 unfolding written pick
 nothing w h = rw h
 
--- a turn that goes on
-going : {A : Type 0} {s t : Stand} → s ≡ Going → t ≡ s → is_done t ≡ true → A
-going f e t = let z : true ≡ false = sym t ∙ ap is_done (e ∙ f) in absurd (true≢false z)
-
 -- no write is due and no offer may be cut: nothing is to be written
 waits : (w : Walk) → Quiet w → ready w.input ≡ false → Waits w
 unfolding due both
@@ -97,16 +93,16 @@ waits w h n =
     record { unready = n; empty = omega (arith, ltb-false 0 (length w.output.bytes) e) }
 
 -- r is w with other bytes at hand
-pub turned_kept : {r : Walk} (c : Settings) (w : Walk) → w.stand ≡ Going → Quiet w → ready w.input ≡ false → Kept w.input r.input
-    → r.output ≡ w.output → r.unit ≡ w.unit → r.offset ≡ w.offset → r.state ≡ w.state → r.stand ≡ w.stand → Turned c w r
+pub turned_kept : {r : Walk} (c : Settings) (w : Walk) → Quiet w → ready w.input ≡ false → Kept w.input r.input
+    → r.output ≡ w.output → r.unit ≡ w.unit → r.offset ≡ w.offset → r.state ≡ w.state → Turned c w (Ok tt) r
 unfolding owed
-turned_kept {r = r} c w f h n k o u z s t =
+turned_kept {r = r} c w h n k o u z s =
     record {
       took = [];
       left = k.left;
       same = λ rest l. rw (nothing w h, o, z, s, u);
-      done = going f t;
-      failed = λ q. ap is_failed t;
+      failed = λ q. refl;
+      told = tt;
       reads = inr (waits w h n);
       unreadable = k.unreadable;
     }
@@ -118,25 +114,11 @@ left_same w rest s l =
 pub left_stays : {r : Walk} (w : Walk) (rest : List ℕ) → Stays w r → Left r.input rest → Left w.input rest
 left_stays w rest s l = left_same w.input rest s.input l
 
-pub offered_same : {r : Window} (w : Window) → Same w r → Offered w → Offered r
-offered_same w s a = (rw s.rest a.0, s.start ∙ a.1 ∙ sym s.end)
+pub same_offered : {r : Window} (w : Window) → Same w r → Offered w → Offered r
+same_offered w s a = (rw s.rest a.0, s.start ∙ a.1 ∙ sym s.end)
 
 unread : {r : Window} (w : Window) → Same w r → Unread w r
 unread w s = record { bytes = s.bytes; end = s.end; rest = s.rest }
-
-pub turned_finish : {r : Walk} (c : Settings) (w : Walk) → w.stand ≡ Going → Quiet w → Stays w r → r.output.bytes ≡ w.output.bytes
-    → r.stand ≡ Done → Offered w.input → Turned c w r
-unfolding owed
-turned_finish c w f h s e t a =
-    record {
-      took = [];
-      left = λ rest l. left_stays w rest s l;
-      same = λ rest l. rw (nothing w h, e, s.offset, s.state, s.unit);
-      done = λ q. offered_same w.input s.input a;
-      failed = λ q. rw (t, f);
-      reads = inl (unread w.input s.input);
-      unreadable = λ q. rw s.input.rest q;
-    }
 
 -- what a write is given was owed first
 pub gave_owed : {text : List ℕ} {r : Walk} (c : Settings) (w : Walk) (rest : List ℕ) → Gave w text r
@@ -144,36 +126,28 @@ pub gave_owed : {text : List ℕ} {r : Walk} (c : Settings) (w : Walk) (rest : L
 unfolding owed
 gave_owed c w rest g = rw (g.given, g.out, g.stays.offset, g.stays.state, g.stays.unit)
 
--- a write of all that the output's buffer holds
-pub gave : {t : Bool} {w r : Walk} → Wrote w t r → Gave w w.output.bytes r
-unfolding pick
-gave {t = t} {w = w} {r = r} k = record { given = refl; out = k.out; stand = go t k.stand; stays = k.stays }
-  where
-    go : (t : Bool) → r.stand ≡ pick t w.stand Failed → (r.stand ≡ w.stand) ⊎ (r.stand ≡ Failed)
-    go true e = inl e
-    go false e = inr e
-
--- a write does not make the listing done
-pub gave_done : {text : List ℕ} {r : Walk} (w : Walk) → Gave w text r → is_done r.stand ≡ true → is_done w.stand ≡ true
-gave_done {r = r} w g t = go g.stand
-  where
-    go : (r.stand ≡ w.stand) ⊎ (r.stand ≡ Failed) → is_done w.stand ≡ true
-    go (inl e) = rw e at t
-    go (inr e) = absurd (true≢false (sym t ∙ ap is_done e))
-
-pub turned_flush : {r : Walk} (c : Settings) (w : Walk) → w.stand ≡ Going → due w (ready w.input) ≡ true → Gave w w.output.bytes r
-    → Turned c w r
+pub turned_flush : {q : Result Unit Failure} {r : Walk} (c : Settings) (w : Walk) → due w (ready w.input) ≡ true
+    → Gave w w.output.bytes r → IsOkUnless q Writing → Turned c w q r
 unfolding written pick
-turned_flush {r = r} c w f h g =
+turned_flush {r = r} c w h g t =
     record {
       took = [];
       left = λ rest l. left_stays w rest g.stays l;
       same = λ rest l. rw h (gave_owed c w rest g);
-      done = λ t. going f refl (gave_done w g t);
-      failed = λ q. absurd (true≢false (sym h ∙ q));
+      failed = λ z. absurd (true≢false (sym h ∙ z));
+      told = t;
       reads = inl (unread w.input g.stays.input);
-      unreadable = λ t. rw g.stays.input.rest t;
+      unreadable = λ z. rw g.stays.input.rest z;
     }
+
+-- an offer may be cut with nothing at hand: the input has ended
+pub ended : (w : Window) → ready w ≡ true → w.start ≡ w.end → has_ended w.rest ≡ true
+unfolding ready either whole
+ended w h e = go (has_ended w.rest) h
+  where
+    go : (t : Bool) → either t (whole (at_hand w)) ≡ true → t ≡ true
+    go true q = refl
+    go false q = absurd (omega (arith, e, hand_length w, leb-true (3 + section_length (at_hand w)) (length (at_hand w)) q))
 
 module _
     {r : Walk} (c : Settings) (w : Walk) (s : Served c w r) where
@@ -217,26 +191,17 @@ module _
       ∙ sym (append_assoc w.output.bytes (line w.offset x.step.answer) more)
       ∙ rw (nothing w k, s.text, s.offset, s.state, s.unit, long)
 
-  pub turned_serve : w.stand ≡ Going → ready w.input ≡ true → (w.input.start ≡ w.input.end → ⊥) → Quiet w → Turned c w r
-  turned_serve f h apart k =
+  pub turned_serve : ready w.input ≡ true → (Offered w.input → ⊥) → Quiet w → Turned c w (Ok tt) r
+  turned_serve h more k =
       record {
         took = p;
         left = before;
-        same = line_owed h apart k;
-        done = going f s.stand;
-        failed = λ q. ap is_failed s.stand;
+        same = line_owed h (λ e. more (ended w.input h e, e)) k;
+        failed = λ q. refl;
+        told = tt;
         reads = inl (record { bytes = s.bytes; end = s.end; rest = s.rest });
         unreadable = λ t. rw s.rest t;
       }
-
--- an offer may be cut with nothing at hand: the input has ended
-pub ended : (w : Window) → ready w ≡ true → w.start ≡ w.end → has_ended w.rest ≡ true
-unfolding ready either whole
-ended w h e = go (has_ended w.rest) h
-  where
-    go : (t : Bool) → either t (whole (at_hand w)) ≡ true → t ≡ true
-    go true q = refl
-    go false q = absurd (omega (arith, e, hand_length w, leb-true (3 + section_length (at_hand w)) (length (at_hand w)) q))
 
 -- no offer may be cut: the input has not ended
 pub unended : (w : Window) → ready w ≡ false → has_ended w.rest ≡ false

@@ -1,16 +1,17 @@
 -- What the turns give to their writes, joined, and what is owed after them are what was owed at the start.
-use Rattle.std.proofs.Common.{◌≡◌, ℕ, ◌+◌, ◌-◌, ◌^◌, Bool, true, false, ◌⊎◌, List, [], ◌++◌, sym, refl, ap, ◌∙◌, inl, inr, true≢false, append_assoc, append-nil, arith}
+use Rattle.std.specs.Result.{result_and}
+use Rattle.std.proofs.Common.{◌≡◌, ℕ, Result, Ok, Err, is_err, IsOkUnless, ◌+◌, ◌-◌, ◌^◌, Bool, true, false, ◌⊎◌, List, [], ◌++◌, sym, refl, ap, ◌∙◌, inl, inr, true≢false, append_assoc, append-nil, arith}
 use Rattle.wire.specs.Choice.{pick}
-use Rattle.stream.specs.declared.Failure.TheVariants.{Nothing, Reading, Writing}
+use Rattle.stream.specs.declared.Failure.{Failure}
+use Rattle.stream.specs.declared.Failure.TheVariants.{Reading, Writing}
 use Rattle.rules.specs.declared.Settings.{Settings}
 use Rattle.rules.specs.Recording.{listing_settings, offers}
-use Rattle.listing.specs.declared.Stand.TheVariants.{Going, Failed}
 use Rattle.listing.specs.declared.Window.{Window}
 use Rattle.listing.specs.declared.Walk.{Walk}
 use Rattle.listing.specs.Lines.{lines_of, listing}
-use Rattle.listing.specs.Walk.{is_unreadable, is_done, is_failed, Left, Gave, Offered, written, owed, Waits, Turned}
+use Rattle.listing.specs.Walk.{is_unreadable, Left, Gave, Offered, written, owed, Waits, Turned}
 use Rattle.listing.specs.Turns.{Turns, begun, turned, Walked, Ended, Listed, Fresh, failure_of}
-use Rattle.listing.proofs.Owed.{left_stays, offered_same, gave_owed, owed_waits, owed_end}
+use Rattle.listing.proofs.Owed.{left_stays, same_offered, gave_owed, owed_waits, owed_end}
 
 pub turns_owed : {c : Settings} {w : Walk} {k : ℕ} {read text : List ℕ} {r : Walk} → Turns c w k read text r
     → (rest : List ℕ) → Left r.input rest → owed c w (read ++ rest) ≡ text ++ owed c r rest
@@ -22,12 +23,18 @@ turns_owed {c = c} {w = w} (turned {read = read} {text = text} {r = r} before t)
     ∙ sym (append_assoc text (written r) _)
 
 -- no turn is made yet
-pub walked_none : {c : Settings} {w : Walk} → w.stand ≡ Going → Walked c w (2 ^ 64 - 1) w
-walked_none f = record { read = []; text = []; turns = begun; done = λ t. absurd (true≢false (sym t ∙ ap is_done f)) }
+pub walked_none : {c : Settings} {w : Walk} → Walked c w (2 ^ 64 - 1) w
+walked_none = record { read = []; text = []; turns = begun }
 
 -- one turn more
-pub walked_more : {c : Settings} {w r r' : Walk} {k j : ℕ} → k ≡ j + 1 → Walked c w k r → Turned c r r' → Walked c w j r'
-walked_more e a t = record { read = _; text = _; turns = turned (rw e at a.turns) t; done = t.done }
+pub walked_more : {c : Settings} {w r r' : Walk} {q : Result Unit Failure} {k j : ℕ} → k ≡ j + 1 → Walked c w k r → Turned c r q r' → Walked c w j r'
+walked_more e a t = record { read = _; text = _; turns = turned (rw e at a.turns) t }
+
+-- a write failed
+pub ended_failed : {c : Settings} {w r r' : Walk} {p q : Result Unit Failure} {k : ℕ} → Walked c w k r' → Turned c r p r' → is_err p ≡ true
+    → q ≡ p → Ended c w q r'
+ended_failed a t f e =
+    record { left = _; walked = a; ends = inr (inl (rw e f)); told = rw e t.told }
 
 -- all is offered: nothing is left
 left_nothing : (w : Window) → Offered w → Left w []
@@ -35,19 +42,28 @@ left_nothing w a =
     let z : w.end - w.start ≡ 0 = omega (arith, a.1) in
     record { front = rw z; all = λ t. omega arith }
 
--- a write that failed is told
-told : (w : Walk) → is_failed w.stand ≡ true → failure_of w ≡ Nothing → ⊥
+-- the answer of two in a row: a failure of the first stays
+pub joined : (p q : Result Unit Failure) → is_err p ≡ true → result_and p q ≡ p
+joined (Ok v) q e = absurd (true≢false (sym e))
+joined (Err x) q e = refl
+
+pub joined_told : (p q : Result Unit Failure) → IsOkUnless p Writing → IsOkUnless q Writing → IsOkUnless (result_and p q) Writing
+joined_told (Ok v) q e f = f
+joined_told (Err x) q e f = e
+
+-- a failure is told
+told : (w : Walk) (q : Result Unit Failure) → failure_of w q ≡ Ok tt → is_err q ≡ true → ⊥
 unfolding failure_of pick
-told w f q = go (is_unreadable w.input.rest) (rw f at q)
+told w q e f = go (is_unreadable w.input.rest) e
   where
-    go : (t : Bool) → pick t Reading Writing ≡ Nothing → ⊥
-    go true e = let z : ◌≡◌ {A = ℕ} 0 1 = cc in omega arith
-    go false e = let z : ◌≡◌ {A = ℕ} 0 1 = cc in omega arith
+    go : (t : Bool) → pick t (Err Reading) q ≡ Ok tt → ⊥
+    go true e = true≢false (ap is_err e)
+    go false e = true≢false (sym f ∙ ap is_err e)
 
 module _
-    {final : List ℕ} {s e r : Walk} (fresh : Fresh s)
+    {final : List ℕ} {s e r : Walk} {p q : Result Unit Failure} (fresh : Fresh s)
     (owes : (recording : List ℕ) → owed listing_settings s recording ≡ listing recording)
-    (a : Ended listing_settings s e) (g : Gave e final r) where
+    (a : Ended listing_settings s p e) (g : Gave e final r) (k : is_err p ≡ true → q ≡ p) (w : IsOkUnless q Writing) where
   goes_on : (rest : List ℕ) → Left r.input rest
       → listing (a.walked.read ++ rest) ≡ (a.walked.text ++ final) ++ owed listing_settings r rest
   goes_on rest l =
@@ -62,15 +78,13 @@ module _
       let none : owed listing_settings r [] ≡ [] = owed_end listing_settings r all.0 all.1 end ∙ g.out in
       rw (append-nil a.walked.read, none, append-nil (a.walked.text ++ final)) at (goes_on [] end)
 
-  silent : failure_of r ≡ Nothing → (is_done r.stand ≡ true) ⊎ (a.left ≡ 0)
-  silent q = go g.stand a.ends
+  silent : failure_of r q ≡ Ok tt → Offered r.input ⊎ (a.left ≡ 0)
+  silent n = go a.ends
     where
-      go : (r.stand ≡ e.stand) ⊎ (r.stand ≡ Failed) → (is_done e.stand ≡ true) ⊎ ((is_failed e.stand ≡ true) ⊎ (a.left ≡ 0))
-          → (is_done r.stand ≡ true) ⊎ (a.left ≡ 0)
-      go (inr f) d = absurd (told r (ap is_failed f) q)
-      go (inl k) (inl d) = inl (ap is_done k ∙ d)
-      go (inl k) (inr (inl f)) = absurd (told r (ap is_failed k ∙ f) q)
-      go (inl k) (inr (inr z)) = inr z
+      go : Offered e.input ⊎ ((is_err p ≡ true) ⊎ (a.left ≡ 0)) → Offered r.input ⊎ (a.left ≡ 0)
+      go (inl o) = inl (same_offered e.input g.stays.input o)
+      go (inr (inl f)) = absurd (told r q n (rw (k f) f))
+      go (inr (inr z)) = inr z
 
   live : {k : ℕ} {read text : List ℕ} {w : Walk} → Turns listing_settings s k read text w → Waits w
       → (rest : List ℕ) → Left w.input rest
@@ -80,16 +94,19 @@ module _
       ∙ turns_owed turns rest l
       ∙ ap (λ (x : List ℕ). text ++ x) (owed_waits listing_settings w rest waits)
 
-  pub listed : Listed s r
+  pub listed : Listed s q r
   listed =
       record {
         fresh = fresh;
         end = e;
+        stop = p;
         ended = a;
         final = final;
         gave = g;
+        kept = k;
+        told = w;
         goes_on = goes_on;
-        whole = λ t. whole (offered_same e.input g.stays.input (a.walked.done t));
+        whole = whole;
         silent = silent;
         live = live;
       }

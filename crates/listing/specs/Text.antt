@@ -1,7 +1,7 @@
 -- The text of one line.
 use Rattle.std.specs.Prelude.{ℕ, zero, suc, ◌+◌, ◌/◌, ◌%◌, List, [], ◌∷◌, ◌++◌, nat_lt}
 use Rattle.wire.specs.Choice.{pick}
-use Rattle.rules.specs.declared.Answer.{Answer}
+use Rattle.rules.specs.Answers.{Answer}
 use Rattle.rules.specs.Step.{number_of, length_of}
 
 -- a number in decimal without leading zeros, in ASCII, where k digits are enough

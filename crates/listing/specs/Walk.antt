@@ -1,7 +1,8 @@
 -- Where the program stands in a recording, of which it has some bytes at hand, and what it still owes the output.
-use Rattle.std.specs.Prelude.{◌≡◌, ℕ, ◌+◌, ◌-◌, ◌%◌, ◌^◌, ◌≤◌, Bool, true, false, not, ◌⊎◌, List, [], ◌++◌, length, take, drop, ◌==◌, nat_le, nat_lt}
+use Rattle.std.specs.Prelude.{◌≡◌, ℕ, ◌+◌, ◌-◌, ◌%◌, ◌^◌, ◌≤◌, Bool, true, false, not, ◌⊎◌, List, [], ◌++◌, length, take, drop, ◌==◌, nat_le, nat_lt, Result, Ok, IsOkUnless}
 use Rattle.wire.specs.Choice.{pick, both, either}
-use Rattle.stream.specs.declared.Input.{Input}
+use Rattle.stream.specs.declared.Failure.{Failure}
+use Rattle.stream.specs.declared.Failure.TheVariants.{Writing}
 use Rattle.stream.specs.Words.{count_of, lost}
 use Rattle.rules.specs.declared.Settings.{Settings}
 use Rattle.rules.specs.Section.{section_length}
@@ -11,8 +12,6 @@ use Rattle.listing.specs.Text.{line}
 use Rattle.listing.specs.Lines.{lines_of}
 use Rattle.listing.specs.declared.Rest.{Rest}
 use Rattle.listing.specs.declared.Rest.TheVariants.{Open, Closed, Unreadable}
-use Rattle.listing.specs.declared.Stand.{Stand}
-use Rattle.listing.specs.declared.Stand.TheVariants.{Going, Done, Failed}
 use Rattle.listing.specs.declared.Window.{Window}
 use Rattle.listing.specs.declared.Walk.{Walk}
 
@@ -46,7 +45,7 @@ unfoldable pub ready : Window → Bool
 ready w = either (has_ended w.rest) (whole (at_hand w))
 
 -- a read gave so many bytes more; with none the input has ended, and a failure is remembered
-pub record Came (w : Window) (got : Input) (r : Window) : Type 0 where
+pub record Came (w : Window) (got : Result ℕ Failure) (r : Window) : Type 0 where
   pub bytes : r.bytes ≡ w.bytes
   pub start : r.start ≡ w.start
   pub end : r.end ≡ w.end + count_of got
@@ -60,25 +59,18 @@ pub record Kept (w r : Window) : Type 0 where
   pub ended : has_ended r.rest ≡ true → r.end - r.start ≡ w.end - w.start
   pub unreadable : is_unreadable w.rest ≡ true → is_unreadable r.rest ≡ true
 
--- ---- how the listing stands
-abbrev pub is_done : Stand → Bool
-is_done Going = false
-is_done Done = true
-is_done Failed = false
+-- all of the input is offered
+abbrev pub Offered : Window → Type 0
+Offered w = (has_ended w.rest ≡ true) × (w.start ≡ w.end)
 
-abbrev pub is_failed : Stand → Bool
-is_failed Going = false
-is_failed Done = false
-is_failed Failed = true
-
--- nothing is read
+-- the bytes at hand and what may follow them are as they were
 pub record Same (w r : Window) : Type 0 where
   pub bytes : r.bytes ≡ w.bytes
   pub start : r.start ≡ w.start
   pub end : r.end ≡ w.end
   pub rest : r.rest ≡ w.rest
 
--- nothing but what the output's buffer holds and how the listing stands may change
+-- nothing but what the output's buffer holds may change
 pub record Stays (w r : Walk) : Type 0 where
   pub input : Same w.input r.input
   pub unit : r.unit ≡ w.unit
@@ -98,7 +90,6 @@ pub record Served (c : Settings) (w r : Walk) : Type 0 where
   pub start : r.input.start ≡ w.input.start + offer_length (at_hand w.input)
   pub end : r.input.end ≡ w.input.end
   pub rest : r.input.rest ≡ w.input.rest
-  pub stand : r.stand ≡ w.stand
   pub offset : r.offset ≡ (w.offset + offer_length (at_hand w.input)) % 2 ^ 64
   pub state : r.state ≡ (outcome_of c w).step.state
   pub unit : r.unit ≡ (outcome_of c w).buffer
@@ -114,17 +105,16 @@ full w = nat_lt (65536 - length w.output.bytes) 63
 unfoldable pub due : Walk → Bool → Bool
 due w t = either (full w) (both (not t) (nat_lt 0 (length w.output.bytes)))
 
--- a write of all that the output's buffer holds was done, or failed: the buffer is empty then, and a failure is not forgotten
-pub record Wrote (w : Walk) (t : Bool) (r : Walk) : Type 0 where
+-- a write of all that the output's buffer holds answered t, which is answered: the buffer is empty then
+pub record Wrote (w : Walk) (t q : Result Unit Failure) (r : Walk) : Type 0 where
+  pub told : q ≡ t
   pub out : r.output.bytes ≡ []
-  pub stand : r.stand ≡ pick t w.stand Failed
   pub stays : Stays w r
 
 -- a write is given `text`, all that the output's buffer holds; it may fail
 pub record Gave (w : Walk) (text : List ℕ) (r : Walk) : Type 0 where
   pub given : text ≡ w.output.bytes
   pub out : r.output.bytes ≡ []
-  pub stand : (r.stand ≡ w.stand) ⊎ (r.stand ≡ Failed)
   pub stays : Stays w r
 
 -- what a turn gives to a write
@@ -136,10 +126,6 @@ unfoldable pub owed : Settings → Walk → List ℕ → List ℕ
 owed c w rest = w.output.bytes ++ lines_of c w.offset w.state w.unit (offers rest)
 
 -- ---- one turn
--- all of the input is offered
-abbrev pub Offered : Window → Type 0
-Offered w = (has_ended w.rest ≡ true) × (w.start ≡ w.end)
-
 -- nothing is read
 pub record Unread (w r : Window) : Type 0 where
   pub bytes : r.bytes ≡ w.bytes
@@ -153,11 +139,11 @@ pub record Waits (w : Walk) : Type 0 where
 
 -- some bytes of the recording are offered, and what was owed is what the turn writes and what is owed after it, whatever is left then; only
 -- a turn that writes can fail; a turn reads only where every line of the offers that have come is written; a failed read is not forgotten
-pub record Turned (c : Settings) (w r : Walk) : Type 0 where
+pub record Turned (c : Settings) (w : Walk) (q : Result Unit Failure) (r : Walk) : Type 0 where
   pub took : List ℕ
   pub left : (rest : List ℕ) → Left r.input rest → Left w.input (took ++ rest)
   pub same : (rest : List ℕ) → Left r.input rest → owed c w (took ++ rest) ≡ written w ++ owed c r rest
-  pub done : is_done r.stand ≡ true → Offered r.input
-  pub failed : due w (ready w.input) ≡ false → is_failed r.stand ≡ is_failed w.stand
+  pub failed : due w (ready w.input) ≡ false → q ≡ Ok tt
+  pub told : IsOkUnless q Writing
   pub reads : Unread w.input r.input ⊎ Waits w
   pub unreadable : is_unreadable w.input.rest ≡ true → is_unreadable r.input.rest ≡ true

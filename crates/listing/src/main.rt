@@ -2,15 +2,16 @@
 // Document 01, 'Listing'.
 #![tactic(auto)]
 
-ghost use Rattle.std.specs.Prelude.{◌≡◌, ◌+◌, ◌<◌, ◌≤◌, ◌++◌, length};
+ghost use Rattle.std.specs.Prelude.{◌≡◌, ◌+◌, ◌<◌, ◌≤◌, ◌↔◌, ◌++◌, length};
+ghost use Rattle.rules.specs.Told.{answer_told};
 ghost use Rattle.listing.specs.Text.{field, line};
 
 use arrayvec::ArrayString;
 use itoa::Buffer;
-use rules::{Answer, Settings, State};
+use rules::{Reception, Refusal, Settings, State};
 use std::io::writer;
 use std::rt::Clock;
-use stream::{Failure, Input};
+use stream::Failure;
 
 // What may follow the bytes at hand: more of the input, or nothing, since it has ended or since a read of it failed.
 #[derive(Clone, Copy)]
@@ -31,50 +32,46 @@ struct Window {
     ghost within: { end ≤ length bytes },
 }
 
-// How the listing stands: it goes on, all of the input is offered, or a write failed.
-#[derive(Clone, Copy)]
-enum Stand {
-    Going,
-    Done,
-    Failed,
-}
+// The output's buffer, which holds whole lines.
+type Output = ArrayString<65536>;
 
-// The first of the bytes at hand is number `offset` of the input, and the output's buffer holds whole lines.
+// The first of the bytes at hand is number `offset` of the input. The receiver has the unit's buffer and the state.
 #[derive(Drop)]
 struct Walk {
     input: Window,
-    output: ArrayString<65536>,
+    output: Output,
     unit: [u8; 65535],
     offset: u64,
     state: State,
-    stand: Stand,
 }
 
 // Puts a number and the byte after it.
-fn put_field(lines: &mut ArrayString<65536>, n: u64, mark: char)
-    requires room { length lines.old.bytes + 21 ≤ 65536 }
+#[tactic(auto, using(crate::proofs::Text::put_field))]
+fn put_field(output: &mut Output, n: u64, mark: char)
+    requires room { length output.old.bytes + 21 ≤ 65536 }
     requires ascii { mark < 128 }
-    ensures text { lines.new.bytes ≡ lines.old.bytes ++ field n mark }
-    ensures short { length lines.new.bytes ≤ length lines.old.bytes + 21 }
+    ensures text { output.new.bytes ≡ output.old.bytes ++ field n mark }
+    ensures short { length output.new.bytes ≤ length output.old.bytes + 21 }
 {
     let mut digits = Buffer::new();
-    lines.push_str(digits.format(n));
-    lines.push(mark);
+    output.push_str(digits.format(n));
+    output.push(mark);
 }
 
-fn put_line(lines: &mut ArrayString<65536>, offset: u64, answer: Answer)
-    requires { length lines.old.bytes + 63 ≤ 65536 }
-    ensures { lines.new.bytes ≡ lines.old.bytes ++ line offset answer }
+#[tactic(auto, using(crate::proofs::Text::put_line))]
+fn put_line(output: &mut Output, offset: u64, answer: Result<Reception, Refusal>)
+    requires { length output.old.bytes + 63 ≤ 65536 }
+    ensures { output.new.bytes ≡ output.old.bytes ++ line offset (answer_told answer) }
 {
     let number = answer_numbers::number_of(answer) as u64;
     let length = answer_numbers::length_of(answer) as u64;
-    put_field(lines, offset, ' ');
-    put_field(lines, number, ' ');
-    put_field(lines, length, '\n');
+    put_field(output, offset, ' ');
+    put_field(output, number, ' ');
+    put_field(output, length, '\n');
 }
 
 impl Rest {
-    ghost use Rattle.listing.specs.Walk.{has_ended, is_unreadable};
+    ghost use Rattle.listing.specs.Walk.{has_ended};
 
     fn has_ended(self) -> bool
         ensures { result ≡ has_ended self }
@@ -86,7 +83,7 @@ impl Rest {
 impl Window {
     ghost use Rattle.std.specs.Prelude.{false, true};
     ghost use Rattle.stream.specs.Words.{count_of};
-    ghost use Rattle.listing.specs.Walk.{at_hand, has_ended, whole, ready, Came, Kept};
+    ghost use Rattle.listing.specs.Walk.{at_hand, has_ended, whole, ready, Offered, Came, Kept};
 
     fn at_hand(&self) -> &[u8]
         ensures { result.now ≡ at_hand self.now }
@@ -111,17 +108,24 @@ impl Window {
         self.rest.has_ended() || self.whole()
     }
 
+    // All of the input is offered.
+    fn is_offered(&self) -> bool
+        ensures { (result ≡ true) ↔ Offered self.now }
+    {
+        self.rest.has_ended() && self.start == self.end
+    }
+
     // What a read into the room after the bytes at hand gave: more of them, the end of the input, or a failure, which ends it too.
     #[tactic(auto, unfolding(wire::specs::Choice::either))]
-    fn came(&mut self, got: Input)
+    fn came(&mut self, got: Result<usize, Failure>)
         requires ended { has_ended self.old.rest ≡ false }
         requires room { self.old.end + count_of got ≤ length self.old.bytes }
         ensures { Came self.old got self.new }
     {
         match got {
-            Input::Bytes(0) => self.rest = Rest::Closed,
-            Input::Bytes(n) => self.end += n,
-            Input::Unreadable => self.rest = Rest::Unreadable,
+            Ok(0) => self.rest = Rest::Closed,
+            Ok(n) => self.end += n,
+            Err(_) => self.rest = Rest::Unreadable,
         }
     }
 
@@ -142,12 +146,11 @@ impl Window {
 }
 
 impl Walk {
-    ghost use Rattle.std.specs.Prelude.{ℕ, List, [], false, true};
-    ghost use Rattle.rules.specs.declared.Settings.{Settings as AnySettings};
+    ghost use Rattle.std.specs.Prelude.{ℕ, List, true, IsOkUnless};
+    ghost use Rattle.stream.specs.declared.Failure.TheVariants.{Writing};
     ghost use Rattle.rules.specs.Recording.{listing_settings};
-    ghost use Rattle.listing.specs.declared.Stand.TheVariants.{Going, Done};
     ghost use Rattle.listing.specs.Lines.{listing};
-    ghost use Rattle.listing.specs.Walk.{has_ended, Left, ready, Stays, Served, due, Wrote, Gave, owed, Turned};
+    ghost use Rattle.listing.specs.Walk.{ready, Served, due, Wrote, Gave, owed, Offered, Turned};
     ghost use Rattle.listing.specs.Turns.{Fresh, Ended, Listed, failure_of};
 
     // At the start of a recording, with a fresh receiver: its listing is owed, and any recording may be left.
@@ -162,17 +165,16 @@ impl Walk {
                 end: 0,
                 rest: Rest::Open,
             },
-            output: ArrayString::new(),
+            output: Output::new(),
             unit: [0; 65535],
             offset: 0,
             state: State::Idle,
-            stand: Stand::Going,
         }
     }
 
     // One offer: the receiver gets it, and its line is put into the output's buffer.
     fn serve(&mut self, settings: Settings)
-        requires input_value { ready self.old.input ≡ true }
+        requires offer { ready self.old.input ≡ true }
         requires room { length self.old.output.bytes + 63 ≤ 65536 }
         ensures { Served settings self.old self.new }
     {
@@ -193,40 +195,27 @@ impl Walk {
     }
 
     // The one write to standard output: what it is given has to be all that the output's buffer holds.
-    fn write(&self, rt: &(impl Print + Clock), text: &[u8]) -> bool
+    fn write(&self, rt: &(impl Print + Clock), text: &[u8]) -> Result<(), Failure>
         requires { text.now ≡ self.now.output.bytes }
+        ensures { IsOkUnless result Writing }
     {
         stream::write_whole(rt, &mut writer(rt), text)
     }
 
-    // What a write of all that the output's buffer holds answered: the buffer is empty then, and a failure is not forgotten.
-    #[tactic(auto, unfolding(wire::specs::Choice::pick))]
-    fn wrote(&mut self, whole: bool)
-        ensures { Wrote self.old whole self.new }
+    // What a write of all that the output's buffer holds answered is handed on, and the buffer is empty then.
+    fn wrote(&mut self, outcome: Result<(), Failure>) -> Result<(), Failure>
+        ensures { Wrote self.old outcome result self.new }
     {
         self.output.clear();
-        if !whole {
-            self.stand = Stand::Failed;
-        }
+        outcome
     }
 
-    fn flush(&mut self, rt: &(impl Print + Clock))
-        ensures { Gave self.old self.old.output.bytes self.new }
+    fn flush(&mut self, rt: &(impl Print + Clock)) -> Result<(), Failure>
+        ensures gave { Gave self.old self.old.output.bytes self.new }
+        ensures failed { IsOkUnless result Writing }
     {
-        let whole = self.write(rt, self.pending());
-        self.wrote(whole);
-    }
-
-    // The input has ended and all of it is offered: what the output's buffer holds is all that is owed.
-    fn finish(&mut self)
-        requires ended { has_ended self.old.input.rest ≡ true }
-        requires start_value { self.old.input.start ≡ self.old.input.end }
-        ensures stays { Stays self.old self.new }
-        ensures out_value { self.new.output.bytes ≡ self.old.output.bytes }
-        ensures done { self.new.stand ≡ Done }
-        ensures rest_value { (c : AnySettings) (rest : List ℕ) → Left self.new.input rest → owed c self.new rest ≡ self.new.output.bytes }
-    {
-        self.stand = Stand::Done;
+        let outcome = self.write(rt, self.pending());
+        self.wrote(outcome)
     }
 
     // A write is due: a line may not fit, or the turn would read although there is something to write, and a read may wait.
@@ -235,65 +224,73 @@ impl Walk {
         ensures is { result ≡ due self.now ready }
         ensures fits { length self.now.output.bytes ≤ 65536 }
     {
-        self.output.remaining_capacity() < 63 || !ready && 0 < self.output.len()
+        self.output.remaining_capacity() < 63 || !ready && !self.output.is_empty()
     }
 
-    // One turn: a write, more input, the end, or an offer.
-    fn turn(&mut self, rt: &(impl std::io::Input + Print + Clock), settings: Settings)
-        requires { self.old.stand ≡ Going }
-        ensures { Turned settings self.old self.new }
+    // One turn: a write, more input, or an offer.
+    fn turn(
+        &mut self,
+        rt: &(impl std::io::Input + Print + Clock),
+        settings: Settings,
+    ) -> Result<(), Failure>
+        requires { Offered self.old.input → ⊥ }
+        ensures { Turned settings self.old result self.new }
     {
         let ready = self.input.ready();
         if self.due(ready) {
-            self.flush(rt);
-        } else if !ready {
-            self.input.refill(rt);
-        } else if self.input.start == self.input.end {
-            self.finish();
-        } else {
-            self.serve(settings);
+            return self.flush(rt);
         }
+        if !ready {
+            self.input.refill(rt);
+            return Ok(());
+        }
+        self.serve(settings);
+        Ok(())
     }
 
-    // Turn after turn, until all is offered or a write failed. A proved loop has to end, and nothing says that the input does: the
-    // turns are as many as no listing uses up.
-    fn walk_on(&mut self, rt: &(impl std::io::Input + Print + Clock), settings: Settings)
-        requires { self.old.stand ≡ Going }
-        ensures { Ended settings self.old self.new }
+    // Turn after turn, until all is offered or a write failed. A proved loop has to end, and nothing says that the input does: no
+    // listing uses up so many turns.
+    fn walk_on(
+        &mut self,
+        rt: &(impl std::io::Input + Print + Clock),
+        settings: Settings,
+    ) -> Result<(), Failure>
+        ensures { Ended settings self.old result self.new }
     {
         for _ in 0..u64::MAX {
-            if !matches!(self.stand, Stand::Going) {
+            if self.input.is_offered() {
                 break;
             }
-            self.turn(rt, settings);
+            self.turn(rt, settings)?;
         }
+        Ok(())
     }
 
     // The whole listing: the turns, and what their last lines leave in the output's buffer.
-    fn list(&mut self, rt: &(impl std::io::Input + Print + Clock))
+    fn list(&mut self, rt: &(impl std::io::Input + Print + Clock)) -> Result<(), Failure>
         requires owes { (recording : List ℕ) → owed listing_settings self.old recording ≡ listing recording }
         requires fresh { Fresh self.old }
-        ensures { Listed self.old self.new }
+        ensures { Listed self.old result self.new }
     {
-        self.walk_on(rt, recording::listing_settings());
-        self.flush(rt);
+        let walked = self.walk_on(rt, recording::listing_settings());
+        let last = self.flush(rt);
+        walked.and(last)
     }
 
     // What has failed: the input, where both have, since nothing is read after a write that failed.
     #[tactic(auto, unfolding(crate::specs::Turns::failure_of, wire::specs::Choice::pick))]
-    fn failure(&self) -> Failure
-        ensures { result ≡ failure_of self.now }
+    fn outcome(&self, written: Result<(), Failure>) -> Result<(), Failure>
+        ensures { result ≡ failure_of self.now written }
     {
-        match (self.input.rest, self.stand) {
-            (Rest::Unreadable, _) => Failure::Reading,
-            (_, Stand::Failed) => Failure::Writing,
-            _ => Failure::Nothing,
+        match self.input.rest {
+            Rest::Unreadable => Err(Failure::Reading),
+            Rest::Open | Rest::Closed => written,
         }
     }
 }
 
 fn main(rt: HostRuntime) {
     let mut walk = Walk::new();
-    walk.list(&rt);
-    stream::say(walk.failure());
+    let written = walk.list(&rt);
+    stream::say(walk.outcome(written));
 }

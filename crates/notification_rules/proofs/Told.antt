@@ -7,9 +7,9 @@ use Rattle.rules.specs.declared.Refusal.{Refusal}
 use Rattle.rules.specs.Told.{number}
 use Rattle.rules.proofs.Told.{number_same}
 use Rattle.notification_rules.specs.Finding.{finding_of, finding_number, part_of}
-use Rattle.notification_rules.specs.Told.{finding_told, Read, Answered, read_number, Handed, SameRead}
+use Rattle.notification_rules.specs.Told.{finding_told, ToldNames, Read, Answered, read_number, Handed, SameRead}
 
-pub finding_same : (x y : Result (Option ℕ) Refusal) → finding_told x ≡ finding_told y → x ≡ y
+pub finding_same : ToldNames
 unfolding finding_told
 finding_same (Ok (Some n)) (Ok (Some m)) e = let k : n ≡ m = cc in ap (λ (i : ℕ). Ok (Some i)) k
 finding_same (Ok (Some n)) (Ok None) e = cc

@@ -14,6 +14,10 @@ finding_told (Ok (Some n)) = Found n
 finding_told (Ok None) = Nobody
 finding_told (Err r) = Refused (number r)
 
+-- what is told names the answer: two of which the same is told are equal. A theorem, shown in proofs/Told.antt
+abbrev pub ToldNames : Type 0
+ToldNames = (x y : Result (Option ℕ) Refusal) → finding_told x ≡ finding_told y → x ≡ y
+
 -- ---- of the reader that hands out the nine bytes
 abbrev pub Read : Type 0
 Read = Result (Option (Bor (List ℕ))) Refusal

@@ -1,8 +1,9 @@
 -- The offer is within the bytes at hand, and what is done with it is what its definition says.
-use Rattle.std.proofs.Common.{◌≡◌, sym, refl, ap, ◌∙◌, arith, take, length-take-le}
+use Rattle.std.proofs.Common.{◌≡◌, ◌++◌, sym, refl, ap, ◌∙◌, arith, take, length-take-le}
 use Rattle.rules.specs.Recording.{offer_length}
-use Rattle.rules.specs.declared.Step.{Step}
+use Rattle.rules.specs.Answers.{Step}
 use Rattle.rules.proofs.Offer.{offer_within}
+use Rattle.listing.specs.Text.{line}
 use Rattle.listing.specs.Walk.{at_hand, offered}
 use Rattle.listing.proofs.Owed.{stop_within, offer_front}
 use Rattle.listing.proofs.Walk.serve.Goals as goal
@@ -35,9 +36,8 @@ returns c =
       start = rw n;
       end = refl;
       rest = refl;
-      stand = refl;
       offset = rw n;
       state = ap (λ (s : Step). s.state) done.step;
       unit = done.buffer;
-      text = rw done.step at c.put_line.ensures;
+      text = c.put_line.ensures ∙ ap (λ (s : Step). c.args.self.now.output.bytes ++ line c.args.self.now.offset s.answer) done.step;
     }
