@@ -88,7 +88,8 @@ fn loop_at<'a>(s: &'a [u8], offset: usize) -> &'a [u8]
     &s[offset + 2..offset + size]
 }
 
-// The offset of the first pair that covers the device and has a location, or the end; `general` says that the platform loop has one.
+// The offset of the first pair that covers the device and has a location, or the end; `general` says that the platform loop has one. A loop
+// over the pairs and one over the addresses, left by label at the first hit, are promised (docs/PROMISES.md), and so no chain of iterators.
 fn search(device: Address, s: &[u8], from: usize, general: bool) -> usize
     requires { Turns s.now from }
     ensures { StopsAt device general s.now from result }

@@ -8,7 +8,7 @@ ghost use Rattle.notification.specs.Readers.{worse, length_fit, descriptor_fit, 
 use wire::byte_at;
 
 // How loops and descriptors fill bytes: exactly; with a known descriptor of another length (33); not exactly (32). Each is worse than the
-// one before it, and the worst that was met is handed on to the end.
+// one before it, and the worst that was met is handed on to the end. No Result, which would stop at 33: 32 is decided over the whole section.
 #[derive(Clone, Copy, PartialEq, Eq, PartialOrd, Ord)]
 pub enum Fit {
     Exact,
@@ -54,7 +54,7 @@ fn with_descriptor(fit: Fit, tag: u8, n: u8) -> Fit
     fit.max(Fit::OtherLength)
 }
 
-// `fit` after the descriptors up to the end of a loop.
+// `fit` after the descriptors up to the end of a loop. That it calls itself on the rest is promised (docs/PROMISES.md).
 fn descriptor_loop(s: &[u8], fit: Fit) -> Fit
     ensures { result ≡ worse fit (descriptor_fit s.now) }
 {
@@ -69,7 +69,7 @@ fn descriptor_loop(s: &[u8], fit: Fit) -> Fit
     descriptor_loop(&s[size..], next)
 }
 
-// `fit` after a target loop and what follows it, up to the end.
+// `fit` after a target loop and what follows it, up to the end. That these two call each other by turns is promised (docs/PROMISES.md).
 #[cycle(operational_loop_target_loop)]
 fn target_loop(s: &[u8], fit: Fit) -> Fit
     ensures { result ≡ worse fit (loop_fit false s.now) }

@@ -6,7 +6,7 @@ ghost use Rattle.notification_rules.specs.Range.{in_range};
 use rules::Address;
 use wire::byte_at;
 
-// The address that stands at i: MAC_address_1 first.
+// The address that stands at i: MAC_address_1 first. Field by field, since an array in between would be no plainer.
 pub fn address_at(s: &[u8], i: usize) -> Address
     requires { i ≤ 6 }
     ensures { result ≡ address_at s.now i }
