@@ -80,6 +80,7 @@ fn refusal(s: &[u8]) -> Result<(), Refusal>
 }
 
 // What the loop at an offset holds.
+#[tactic(auto, using(crate::proofs::Pairs::content_at, crate::proofs::Pairs::content_length, notification_rules::proofs::Items::loop_two, wire::proofs::Lists::from))]
 fn loop_at<'a>(s: &'a [u8], offset: usize) -> &'a [u8]
     requires { offset + loop_size (drop offset s.now) ≤ length s.now }
     ensures { Holds s.entry offset result }

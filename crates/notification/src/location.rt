@@ -27,6 +27,7 @@ fn from_location<'a>(s: &'a [u8]) -> Option<&'a [u8]>
 }
 
 // A loop has a 0x13.
+#[tactic(auto, using(crate::proofs::Locations::has_is))]
 pub fn has_location(s: &[u8]) -> bool
     ensures { Has s.now result }
 {

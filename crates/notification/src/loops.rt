@@ -17,6 +17,7 @@ pub enum Fit {
 }
 
 // The bytes that the loop at the front takes.
+#[tactic(auto, unfolding(notification_rules::specs::Loop::loop_size))]
 pub fn loop_size(s: &[u8]) -> usize
     ensures { Reads (loop_size s.now) 4098 result }
 {
@@ -24,6 +25,7 @@ pub fn loop_size(s: &[u8]) -> usize
 }
 
 // The bytes that the descriptor at the front takes.
+#[tactic(auto, unfolding(notification_rules::specs::Loop::descriptor_size))]
 pub fn descriptor_size(s: &[u8]) -> usize
     ensures { Reads (descriptor_size s.now) 258 result }
 {
