@@ -71,6 +71,7 @@ fn loops_refusal(s: &[u8]) -> Result<(), Refusal>
 }
 
 // The first of 12 to 18 and 30 to 33 that applies.
+#[tactic(auto, unfolding(rules::specs::Check::shared_refusal, notification_rules::specs::Finding::refusal), using(section_check::proofs::Parts::refused_by_first, section_check::proofs::Parts::left_to_rest, rules::proofs::Check::shared_numbered, notification_rules::proofs::Sound::platform_numbered))]
 fn refusal(s: &[u8]) -> Result<(), Refusal>
     ensures { refusal_number result ≡ refusal s.now }
 {
@@ -125,6 +126,7 @@ fn search(device: Address, s: &[u8], from: usize, general: bool) -> usize
 }
 
 // The one search: the refusals first, then the pairs in their order. The offset of the operational loop of the first pair that answers.
+#[tactic(auto, unfolding(rules::specs::Told::refusal_number), using(crate::proofs::Answers::below, crate::proofs::Answers::platform_whole, crate::proofs::Answers::pairs_turns, crate::proofs::Answers::finding_refused, crate::proofs::Pairs::first_whole))]
 fn find(device: Address, s: &[u8]) -> Result<Option<usize>, Refusal>
     ensures { Tells device s.now result }
 {
@@ -140,6 +142,7 @@ fn find(device: Address, s: &[u8]) -> Result<Option<usize>, Refusal>
 }
 
 // What the device finds: the nine bytes, which are a part of the section, or nobody.
+#[tactic(auto, using(crate::proofs::Answers::pair_answers))]
 pub fn read<'a>(device: Address, s: &'a [u8]) -> Result<Option<&'a [u8]>, Refusal>
     ensures { Answered device s.entry result }
 {
@@ -154,6 +157,7 @@ pub fn read<'a>(device: Address, s: &'a [u8]) -> Result<Option<&'a [u8]>, Refusa
 }
 
 // The offset of the nine bytes of the pair whose operational loop stands at `pair`.
+#[tactic(auto, unfolding(notification_rules::specs::Told::finding_told), using(crate::proofs::Answers::told_is))]
 fn nine_offset(head: &[u8], pair: usize) -> Option<usize>
     requires { Locates head.now pair }
     ensures { told_at head.now pair ≡ finding_told (Ok result) }
@@ -166,6 +170,7 @@ fn nine_offset(head: &[u8], pair: usize) -> Option<usize>
 }
 
 // The same, with the offset of the nine bytes: for callers to whom no part can be handed back.
+#[tactic(auto, unfolding(notification_rules::specs::Told::finding_told), using(crate::proofs::Answers::pair_answers))]
 pub fn finding(device: Address, s: &[u8]) -> Result<Option<usize>, Refusal>
     ensures { finding_told result ≡ finding_of device s.now }
 {
