@@ -81,6 +81,7 @@ fn refusal(s: &[u8]) -> Result<(), Refusal>
 }
 
 // What the loop at an offset holds.
+#[tactic(auto, using(crate::proofs::Pairs::content_at, crate::proofs::Pairs::content_length, notification_rules::proofs::Items::loop_two, wire::proofs::Lists::from))]
 fn loop_at<'a>(s: &'a [u8], offset: usize) -> &'a [u8]
     requires { offset + loop_size (drop offset s.now) ≤ length s.now }
     ensures { Holds s.entry offset result }
@@ -89,7 +90,8 @@ fn loop_at<'a>(s: &'a [u8], offset: usize) -> &'a [u8]
     &s[offset + 2..offset + size]
 }
 
-// The offset of the first pair that covers the device and has a location, or the end; `general` says that the platform loop has one.
+// The offset of the first pair that covers the device and has a location, or the end; `general` says that the platform loop has one. A loop
+// over the pairs and one over the addresses, left by label at the first hit, are promised (docs/PROMISES.md), and so no chain of iterators.
 fn search(device: Address, s: &[u8], from: usize, general: bool) -> usize
     requires { Turns s.now from }
     ensures { StopsAt device general s.now from result }
@@ -124,6 +126,7 @@ fn search(device: Address, s: &[u8], from: usize, general: bool) -> usize
 }
 
 // The one search: the refusals first, then the pairs in their order. The offset of the operational loop of the first pair that answers.
+#[tactic(auto, unfolding(rules::specs::Told::refusal_number), using(crate::proofs::Answers::below, crate::proofs::Answers::platform_whole, crate::proofs::Answers::pairs_turns, crate::proofs::Answers::finding_refused, crate::proofs::Pairs::first_whole))]
 fn find(device: Address, s: &[u8]) -> Result<Option<usize>, Refusal>
     ensures { Tells device s.now result }
 {
@@ -139,6 +142,7 @@ fn find(device: Address, s: &[u8]) -> Result<Option<usize>, Refusal>
 }
 
 // What the device finds: the nine bytes, which are a part of the section, or nobody.
+#[tactic(auto, using(crate::proofs::Answers::pair_answers))]
 pub fn read<'a>(device: Address, s: &'a [u8]) -> Result<Option<&'a [u8]>, Refusal>
     ensures { Answered device s.entry result }
 {
@@ -153,6 +157,7 @@ pub fn read<'a>(device: Address, s: &'a [u8]) -> Result<Option<&'a [u8]>, Refusa
 }
 
 // The offset of the nine bytes of the pair whose operational loop stands at `pair`.
+#[tactic(auto, unfolding(notification_rules::specs::Told::finding_told), using(crate::proofs::Answers::told_is))]
 fn nine_offset(head: &[u8], pair: usize) -> Option<usize>
     requires { Locates head.now pair }
     ensures { told_at head.now pair ≡ finding_told (Ok result) }
@@ -165,6 +170,7 @@ fn nine_offset(head: &[u8], pair: usize) -> Option<usize>
 }
 
 // The same, with the offset of the nine bytes: for callers to whom no part can be handed back.
+#[tactic(auto, unfolding(notification_rules::specs::Told::finding_told), using(crate::proofs::Answers::pair_answers))]
 pub fn finding(device: Address, s: &[u8]) -> Result<Option<usize>, Refusal>
     ensures { finding_told result ≡ finding_of device s.now }
 {

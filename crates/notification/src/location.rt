@@ -13,6 +13,7 @@ pub enum Choice {
 }
 
 // A loop from its first 0x13 on.
+#[tactic(auto, using(crate::proofs::Locations::reaches_end, crate::proofs::Locations::reaches_here, crate::proofs::Locations::reaches_more, notification_rules::proofs::Items::descriptor_two, wire::proofs::Lists::from))]
 fn from_location<'a>(s: &'a [u8]) -> Option<&'a [u8]>
     ensures { Reaches s.now result }
 {
@@ -27,6 +28,7 @@ fn from_location<'a>(s: &'a [u8]) -> Option<&'a [u8]>
 }
 
 // A loop has a 0x13.
+#[tactic(auto, using(crate::proofs::Locations::has_is))]
 pub fn has_location(s: &[u8]) -> bool
     ensures { Has s.now result }
 {
@@ -34,6 +36,7 @@ pub fn has_location(s: &[u8]) -> bool
 }
 
 // The choice of a pair's location, if it has one. The nine bytes stand after tag and length.
+#[tactic(auto, using(crate::proofs::Locations::rest_inside, crate::proofs::Locations::chosen_own, crate::proofs::Locations::chosen_platform, crate::proofs::Locations::chosen_none))]
 pub fn choose(operational: &[u8], platform: &[u8]) -> Option<Choice>
     ensures { result ≡ choice_of operational.now platform.now }
 {

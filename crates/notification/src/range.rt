@@ -6,7 +6,8 @@ ghost use Rattle.notification_rules.specs.Range.{in_range};
 use rules::Address;
 use wire::byte_at;
 
-// The address that stands at i: MAC_address_1 first.
+// The address that stands at i: MAC_address_1 first. Field by field, since an array in between would be no plainer.
+#[tactic(auto, unfolding(rules::specs::Address::address_at))]
 pub fn address_at(s: &[u8], i: usize) -> Address
     requires { i ≤ 6 }
     ensures { result ≡ address_at s.now i }

@@ -1,18 +1,6 @@
--- A refusal and nobody are told as they are; else the nine bytes that were picked stand in the section.
+-- The nine bytes that were picked stand in the section.
 use Rattle.notification.proofs.Answers.{pair_answers, part_in, found_given, answered}
 use Rattle.notification.proofs.read.Goals as goal
-
-pub loop_at-operational-requires : goal.loop_at-operational-requires
-loop_at-operational-requires c = let A = c.args in
-    let H = c.checked-head in
-    let a = pair_answers A.device A.s.now H.result.now _ (rw c.in-Some.is at c.in_ok-find.ensures) H.ensures.bytes in
-    a.locates.operational
-
-pub loop_at-requires : goal.loop_at-requires
-loop_at-requires c = let A = c.args in
-    let H = c.checked-head in
-    let a = pair_answers A.device A.s.now H.result.now _ (rw c.in-Some.is at c.in_ok-find.ensures) H.ensures.bytes in
-    a.locates.platform
 
 pub returns-in-Some : goal.returns-in-Some
 returns-in-Some c = let A = c.args in

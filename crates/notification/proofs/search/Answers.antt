@@ -1,15 +1,13 @@
 -- The first pair that answers is the same from here as from the start; what is left of a loop or a descriptor covers as all of it does.
-use Rattle.notification.proofs.Pairs.{first_whole, second_whole, pair_whole, next_turns, skips, hits, ends, answers_empty, answers_some, answers_nowhere, no_descriptor, descriptor_hit, descriptor_miss, no_entry, entry_hit, entry_miss, covers_by, one_holds, none_holds}
-use Rattle.notification.specs.Readers.{pair_at, answers_by}
+use Rattle.notification.proofs.Pairs.{first_whole, second_whole, pair_whole, ends, seen, stops_here, passes, answers_empty, answers_some, answers_nowhere, no_descriptor, descriptor_hit, descriptor_miss, no_entry, entry_hit, entry_miss, covers_by, one_holds, none_holds}
+use Rattle.notification.specs.Readers.{answers_by}
 use Rattle.notification_rules.proofs.Items.{descriptor_two, entry_some}
 use Rattle.wire.proofs.Lists.{from}
-use Rattle.notification_rules.specs.Loop.{loop_size}
 use Rattle.wire.proofs.Choice.{was}
-use Rattle.wire.specs.Choice.{either}
 use lib.Seq.{length-take-le}
-use lib.ListN.{length, take, drop, length-drop}
-use mathlib.Core.Bool.{Bool, true, false}
-use mathlib.Core.Path.{◌≡◌, refl, sym, ap, ◌∙◌}
+use lib.ListN.{length, take, length-drop}
+use mathlib.Core.Bool.{true, false}
+use mathlib.Core.Path.{refl, sym, ◌∙◌}
 use native.Mathlib.Omega.{arith}
 use Prim.Native.Nat.{◌+◌, ◌<◌}
 use Rattle.std.specs.Slice.Iter.{chunks_exact_rest}
@@ -59,31 +57,31 @@ descriptors-smaller c = rw from (simp length-drop (omega (
 )))
 
 pub overflow_add-offset-in-pairs-2 : goal.overflow_add-offset-in-pairs-2
-overflow_add-offset-in-pairs-2 c = let P = c.pairs in
-    let w = pair_whole c.args.s.now P.offset _ _ P.invariant.0
-    c.pairs-test.true c.loop_at-target.ensures.size
-    c.loop_at-operational.ensures.size in
+overflow_add-offset-in-pairs-2 c =
+    let P = c.pairs in
+    let q = seen P.invariant.0 c.pairs-test.true c.loop_at-target.ensures c.loop_at-operational.ensures c.has_location.ensures in
+    let w = pair_whole c.args.device c.args.general _ _ _ _ _ q in
     omega (arith, w)
 
 pub overflow_add-offset-in-pairs-3 : goal.overflow_add-offset-in-pairs-3
-overflow_add-offset-in-pairs-3 c = let P = c.pairs in
-    let w = pair_whole c.args.s.now P.offset _ _ P.invariant.0
-    c.pairs-test.true c.loop_at-target.ensures.size
-    c.loop_at-operational.ensures.size in
+overflow_add-offset-in-pairs-3 c =
+    let P = c.pairs in
+    let q = seen P.invariant.0 c.pairs-test.true c.loop_at-target.ensures c.loop_at-operational.ensures c.has_location.ensures in
+    let w = pair_whole c.args.device c.args.general _ _ _ _ _ q in
     omega (arith, w)
 
 pub overflow_add-offset-in-pairs-4 : goal.overflow_add-offset-in-pairs-4
-overflow_add-offset-in-pairs-4 c = let P = c.pairs in
-    let w = pair_whole c.args.s.now P.offset _ _ P.invariant.0
-    c.pairs-test.true c.loop_at-target.ensures.size
-    c.loop_at-operational.ensures.size in
+overflow_add-offset-in-pairs-4 c =
+    let P = c.pairs in
+    let q = seen P.invariant.0 c.pairs-test.true c.loop_at-target.ensures c.loop_at-operational.ensures c.has_location.ensures in
+    let w = pair_whole c.args.device c.args.general _ _ _ _ _ q in
     omega (arith, w)
 
 pub pairs-smaller : goal.pairs-smaller
-pairs-smaller c = let P = c.pairs in
-    let w = pair_whole c.args.s.now P.offset _ _ P.invariant.0
-    c.pairs-test.true c.loop_at-target.ensures.size
-    c.loop_at-operational.ensures.size in
+pairs-smaller c =
+    let P = c.pairs in
+    let q = seen P.invariant.0 c.pairs-test.true c.loop_at-target.ensures c.loop_at-operational.ensures c.has_location.ensures in
+    let w = pair_whole c.args.device c.args.general _ _ _ _ _ q in
     omega (arith, w, c.pairs-test.true)
 
 pub returns-after-pairs : goal.returns-after-pairs
@@ -96,23 +94,11 @@ returns-after-pairs c = let A = c.args in
     }
 
 pub returns-then-target-eq0 : goal.returns-then-target-eq0
-returns-then-target-eq0 c = let A = c.args in
-    let S = A.s.now in
+returns-then-target-eq0 c =
     let P = c.pairs in
-    let H1 = c.loop_at-target in
-    let H2 = c.loop_at-operational in
-    let e : P.offset + 2 + length H1.result.now ≡ P.offset + loop_size (drop P.offset S) = omega (arith, H1.ensures.size) in
-    let f : P.offset + 4 + length H1.result.now + length H2.result.now
-    ≡ P.offset + 2 + length H1.result.now + loop_size (drop (P.offset + 2 + length H1.result.now) S) = omega
-    (arith, H2.ensures.size) in
-    let told = ap (λ (t : Bool). either t A.general) (c.has_location.ensures _) in
-    record {
-      first = hits S P.offset P.invariant.0 c.pairs-test.true _ e _ f
-          (answers_by A.device A.general) (answers_empty A.device A.general S P.offset _ e H1.result.now
-          H2.result.now H1.ensures.is.bytes H2.ensures.is.bytes _ told
-          c.if-target-eq0.true (one_holds _ _ c.then-has_location.either)) ∙ P.invariant.1;
-      turns = P.invariant.0;
-    }
+    let q = seen P.invariant.0 c.pairs-test.true c.loop_at-target.ensures c.loop_at-operational.ensures c.has_location.ensures in
+    stops_here c.args.device c.args.general _ _ _ _ _ q c.args.from P.invariant.1
+    (answers_empty c.args.device c.args.general _ _ _ _ _ q c.if-target-eq0.true (one_holds _ _ c.then-has_location.either))
 
 pub chunks_exact-entry-items-requires : goal.chunks_exact-entry-items-requires
 chunks_exact-entry-items-requires c = omega (arith, entry_some c.byte_at.result, c.entry_size-step.ensures)
@@ -152,19 +138,13 @@ descriptors-preserved c = let R = c.descriptors.rest.now in
     ∙ c.descriptors.invariant
 
 pub returns-then-hit : goal.returns-then-hit
-returns-then-hit c = let A = c.args in
-    let S = A.s.now in
+returns-then-hit c =
     let P = c.pairs in
-    let H1 = c.loop_at-target in
-    let H2 = c.loop_at-operational in
-    let e : P.offset + 2 + length H1.result.now ≡ P.offset + loop_size (drop P.offset S) = omega (arith, H1.ensures.size) in
-    let f : P.offset + 4 + length H1.result.now + length H2.result.now
-    ≡ P.offset + 2 + length H1.result.now + loop_size (drop (P.offset + 2 + length H1.result.now) S) = omega
-    (arith, H2.ensures.size) in
+    let q = seen P.invariant.0 c.pairs-test.true c.loop_at-target.ensures c.loop_at-operational.ensures c.has_location.ensures in
     let R = c.descriptors.rest.now in
     let n = c.descriptor_size-size.result in
     let d = take n R in
-    let D = A.device in
+    let D = c.args.device in
     let g : 0 < c.entry_size-step.result = omega (arith, entry_some c.byte_at.result, c.entry_size-step.ensures) in
     let s = rw c.in-Some.is at c.next.ensures.steps in
     let I = c.addresses.invariant in
@@ -172,37 +152,18 @@ returns-then-hit c = let A = c.args in
     let by = covers_by D d _ _ _ true c.byte_at.ensures.is c.entry_size-step.ensures refl (sym I.1 ∙ struck) in
     let all = sym c.descriptors.invariant
     ∙ descriptor_hit D R n c.descriptor_size-size.ensures.is (omega (arith, c.if-rest-size.false)) by in
-    let told = ap (λ (t : Bool). either t A.general) (c.has_location.ensures _) in
-    record {
-      first = hits S P.offset P.invariant.0 c.pairs-test.true _ e _ f (answers_by D A.general)
-          (answers_some A.device A.general S P.offset _ e H1.result.now H2.result.now H1.ensures.is.bytes
-          H2.ensures.is.bytes _ told c.if-target-eq0.false (one_holds _ _ c.then-has_location.either) true all) ∙ P.invariant.1;
-      turns = P.invariant.0;
-    }
+    stops_here c.args.device c.args.general _ _ _ _ _ q c.args.from P.invariant.1
+    (answers_some c.args.device c.args.general _ _ _ _ _ q c.if-target-eq0.false (one_holds _ _ c.then-has_location.either) true all)
 
 pub pairs-preserved : goal.pairs-preserved
-pairs-preserved c = let A = c.args in
-    let S = A.s.now in
+pairs-preserved c =
     let P = c.pairs in
-    let H1 = c.loop_at-target in
-    let H2 = c.loop_at-operational in
-    let e : P.offset + 2 + length H1.result.now ≡ P.offset + loop_size (drop P.offset S) = omega (arith, H1.ensures.size) in
-    let f : P.offset + 4 + length H1.result.now + length H2.result.now
-    ≡ P.offset + 2 + length H1.result.now + loop_size (drop (P.offset + 2 + length H1.result.now) S) = omega
-    (arith, H2.ensures.size) in
-    let told = ap (λ (t : Bool). either t A.general) (c.has_location.ensures _) in
-    let silent : answers_by A.device A.general (pair_at S P.offset) ≡ false =
-    elim c.if-has_location.branch [
+    let q = seen P.invariant.0 c.pairs-test.true c.loop_at-target.ensures c.loop_at-operational.ensures c.has_location.ensures in
+    passes c.args.device c.args.general _ _ _ _ _ q c.args.from P.invariant.1
+    (elim c.if-has_location.branch [
       | then-has_location+else-target-eq0+then-rest-size w ↦
-          answers_some A.device A.general S P.offset _ e H1.result.now H2.result.now H1.ensures.is.bytes
-          H2.ensures.is.bytes _ told w.if-target-eq0.false (one_holds _ _ w.then-has_location.either) false
-          (sym w.descriptors.invariant ∙ no_descriptor A.device w.descriptors.rest.now _ w.descriptor_size-size.ensures.is w.if-rest-size.true)
+          answers_some c.args.device c.args.general _ _ _ _ _ q w.if-target-eq0.false (one_holds _ _ w.then-has_location.either) false
+          (sym w.descriptors.invariant ∙ no_descriptor c.args.device w.descriptors.rest.now _ w.descriptor_size-size.ensures.is w.if-rest-size.true)
       | else-has_location+else-general w ↦
-          answers_nowhere A.device A.general S P.offset _ e H1.result.now H2.result.now H1.ensures.is.bytes
-          H2.ensures.is.bytes _ told (none_holds _ _ w.if-has_location.false w.if-general.false)
-    ] in (
-      next_turns S P.offset P.invariant.0 c.pairs-test.true _ e _ f,
-      skips S P.offset
-          P.invariant.0 c.pairs-test.true _ e _ f
-          (answers_by A.device A.general) silent ∙ P.invariant.1,
-    )
+          answers_nowhere c.args.device c.args.general _ _ _ _ _ q (none_holds _ _ w.if-has_location.false w.if-general.false)
+    ])
