@@ -1,6 +1,7 @@
 -- As many pieces as the section limit hold the unit exactly where it is not longer than they are, and a section is its piece and 16 bytes more.
-use Rattle.std.proofs.Math.Decide.{dec_le, dec_lt}
+use Rattle.std.proofs.Math.Decide.{dec_lt}
 use Rattle.std.proofs.Math.Seq.{get_or-append_seam}
+use Rattle.std.proofs.lemmas.Bool.{cases_lt}
 use Rattle.std.proofs.Common.{lt_of_not-le, ℕ, ◌+◌, ◌*◌, ◌-◌, ◌≤◌, ◌<◌, mul_comm, mul-le-mul_right, arith, ◌≡◌, refl, ap, sym, ◌∙◌, inl, inr, ⊎_elim, List, [], ◌∷◌, ◌++◌, Bool, false, drop, get_or, length, length-append, take}
 use Rattle.wire.specs.Meaning.{FirstThat}
 use Rattle.rules.specs.declared.Settings.{Settings}
@@ -71,11 +72,7 @@ module _ (c : Settings) (llc_snap : Bool) (size : ℕ) (u out : List ℕ) (some 
       go (no h) (no r) = absurd (omega (arith, e, is_0 (enough (omega arith)) (omega arith)))
 
   within_limit : number ≡ 0 → length u ≤ size * c.limit
-  within_limit e = go (dec_le (length u) (size * c.limit))
-    where
-      go : Dec (length u ≤ size * c.limit) → length u ≤ size * c.limit
-      go (yes h) = h
-      go (no h) = absurd (omega (arith, e, is_52 (more (omega arith))))
+  within_limit e = ⊎_elim (λ h. absurd (omega (arith, e, is_52 (more h)))) (λ h. h) (cases_lt (size * c.limit) (length u))
 
   pub in_pieces : let o : SendOutcome = sent_of c llc_snap size u out in
       InPiecesOf size (size + 16) c u (length out) number (take (sending_length o.sending) o.output)
