@@ -1,7 +1,6 @@
 -- Each contract is an equation with the rules' own step, so what is held and handed over follows event by event.
 use Prim.Native.Nat.{ℕ}
 use native.Mathlib.Decide.{ℕ_discrete}
-use native.Mathlib.Omega.{arith}
 use mathlib.Core.Path.{◌≡◌, refl, ap, ap₂, ◌∙◌}
 use mathlib.Core.List.{List, [], ◌∷◌, ◌++◌}
 use borrow.Author.Tests.{ne_eqb}
@@ -40,7 +39,7 @@ named_tells PassedBy t b = refl
 named_tells (Refused n) t b = go (ℕ_discrete n 0)
   where
     go : Dec (n ≡ 0) → handed_abroad n 0 b ≡ handed_by (Refused n) b
-    go (yes e) = let other = t.delivered e in let z : ◌≡◌ {A = ℕ} 0 1 = cc in absurd (omega arith)
+    go (yes e) = let other = t.delivered e in absurd cc
     go (no e) = rw (ne_eqb n 0 e)
 
 handed : (c : Settings) (h : Held) (e : Event) (k : Held) (d : Handed) → Given c h e k d → d ≡ handed_over c h e

@@ -259,7 +259,7 @@ else_one (some q) b p e = inl e
 
 cond_one : (c : Bool) (a : Option Part) (p : Part) → cond c a none ≡ some p → a ≡ some p
 cond_one true a p e = e
-cond_one false a p e = absurd (let z : ◌≡◌ {A = ℕ} 0 1 = cc in omega arith)
+cond_one false a p e = absurd cc
 
 module _ (s : List ℕ) where
   content_stands : (l : Loop) (o : ℕ) → Stands s (part o (loop_written l)) → Stands s (part (o + 2) (content_written l.descriptors))
@@ -270,7 +270,7 @@ module _ (s : List ℕ) where
   nine_stands : (o : ℕ) (ds : List Descriptor) → ((d : Descriptor) → Memᴰ d ds → Fits d) → Stands s (part o (content_written ds))
       → (p : Part) → location_in o ds ≡ some p → Nine s p
   unfolding location_in flatten
-  nine_stands o [] f t p e = absurd (let z : ◌≡◌ {A = ℕ} 0 1 = cc in omega arith)
+  nine_stands o [] f t p e = absurd cc
   nine_stands o (d ∷ ds) f t p e =
       go (eqb (tag_of d) 0x13) refl e
       (nine_stands (o + length (descriptor_written d)) ds (λ x m. f x (Memᴰ.tail m))
@@ -293,7 +293,7 @@ module _ (s : List ℕ) where
       → ((q : Loop × Loop) → Memᴰ q ps → FitsLoop q.0 × FitsLoop q.1) → Stands s (part o (flatten (map pair_written ps)))
       → (p : Part) → location_to device general o ps ≡ some p → Nine s p
   unfolding location_to flatten
-  pairs_stand device general g o [] f t p e = absurd (let z : ◌≡◌ {A = ℕ} 0 1 = cc in omega arith)
+  pairs_stand device general g o [] f t p e = absurd cc
   pairs_stand device general g o (x ∷ ps) f t p e =
       go (else_one _ _ p e)
       (pairs_stand device general g (o + length (pair_written x)) ps (λ q m. f q (Memᴰ.tail m))

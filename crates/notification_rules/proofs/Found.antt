@@ -1,6 +1,5 @@
 -- The search chooses a pair that passes its test, and refuses nothing.
 use Prim.Native.Nat.{ℕ}
-use native.Mathlib.Omega.{arith}
 use mathlib.Core.Path.{◌≡◌, refl, sym, ap, ◌∙◌}
 use mathlib.Core.Bool.{Bool, true, false}
 use mathlib.Core.List.{List, [], ◌∷◌, ◌++◌}
@@ -23,7 +22,7 @@ pub record First (f : Pair → Bool) (xs : List Pair) (x : Pair) : Type 0 where
 
 pub first_is : (f : Pair → Bool) (xs : List Pair) (x : Pair) → first_pair f xs ≡ some x → First f xs x
 unfolding first_pair pick
-first_is f [] x h = absurd (let z : ◌≡◌ {A = ℕ} 0 1 = cc in omega arith)
+first_is f [] x h = absurd cc
 first_is f (y ∷ ys) x h = go (f y) refl h (first_is f ys x)
   where
     go : (b : Bool) → f y ≡ b → pick b (some y) (first_pair f ys) ≡ some x → (first_pair f ys ≡ some x → First f ys x)
@@ -53,16 +52,16 @@ unrefused device s h = rw (eq-eqb (refusal s) 0 h)
 -- ---- the search refuses nothing
 found_takes : (l : Location) (k : ℕ) → found l ≡ Refused k → ⊥
 unfolding found
-found_takes nowhere k h = let z : ◌≡◌ {A = ℕ} 0 1 = cc in omega arith
-found_takes (somewhere d) k h = let z : ◌≡◌ {A = ℕ} 0 1 = cc in omega arith
+found_takes nowhere k h = cc
+found_takes (somewhere d) k h = cc
 
 searched_takes : (device : Address) (ls : List Part) (k : ℕ) → searched device ls ≡ Refused k → ⊥
 unfolding searched chosen
-searched_takes device [] k h = let z : ◌≡◌ {A = ℕ} 0 1 = cc in omega arith
+searched_takes device [] k h = cc
 searched_takes device (platform ∷ loops) k h = go (first_pair (answers device platform) (pairs_of loops)) h
   where
     go : (c : Option Pair) → chosen platform c ≡ Refused k → ⊥
-    go none h = let z : ◌≡◌ {A = ℕ} 0 1 = cc in omega arith
+    go none h = cc
     go (some x) h = found_takes (location_of platform x) k h
 
 pub takes : (device : Address) (s : List ℕ) → refusal s ≡ 0 → (k : ℕ) → finding_of device s ≡ Refused k → ⊥

@@ -20,7 +20,7 @@ use Rattle.notification_rules.proofs.Parts.{rejoined, descriptor_long, every_one
 -- ---- where the located descriptor comes from
 located_one : (ds : List Part) (d : Part) → located ds ≡ somewhere d → Memᴰ d ds × (tag d.bytes ≡ stream_location)
 unfolding located pick
-located_one [] d h = absurd (let z : ◌≡◌ {A = ℕ} 0 1 = cc in omega arith)
+located_one [] d h = absurd cc
 located_one (x ∷ xs) d h = go (eqb (tag x.bytes) stream_location) refl h (located_one xs d)
   where
     go : (b : Bool) → eqb (tag x.bytes) stream_location ≡ b → pick b (somewhere x) (located xs) ≡ somewhere d

@@ -1,9 +1,8 @@
 -- What the code's answers tell names them: two answers of which the same is told are equal.
-use Rattle.std.specs.Prelude.{ℕ, ◌+◌, ◌≡◌, List, take, drop, Option, Some, None, Result, Ok, Err}
+use Rattle.std.specs.Prelude.{ℕ, ◌+◌, ◌≡◌, List, take, drop, Some, None, Ok, Err}
 use Rattle.std.specs.Borrow.{Bor}
 use mathlib.Core.Path.{refl, sym, ap, ◌∙◌}
 use Rattle.rules.specs.declared.Address.{Address}
-use Rattle.rules.specs.declared.Refusal.{Refusal}
 use Rattle.rules.specs.Told.{number}
 use Rattle.rules.proofs.Told.{number_same}
 use Rattle.notification_rules.specs.Finding.{finding_of, finding_number, part_of}
