@@ -59,29 +59,25 @@ descriptors-smaller c = rw from (simp length-drop (omega (
 pub overflow_add-offset-in-pairs-2 : goal.overflow_add-offset-in-pairs-2
 overflow_add-offset-in-pairs-2 c =
     let P = c.pairs in
-    let q = seen P.invariant.0 c.pairs-test.true c.loop_at-target.ensures c.loop_at-operational.ensures c.has_location.ensures in
-    let w = pair_whole c.args.device c.args.general _ _ _ _ _ q in
+    let w = pair_whole P.invariant.0 c.pairs-test.true c.loop_at-target.ensures c.loop_at-operational.ensures in
     omega (arith, w)
 
 pub overflow_add-offset-in-pairs-3 : goal.overflow_add-offset-in-pairs-3
 overflow_add-offset-in-pairs-3 c =
     let P = c.pairs in
-    let q = seen P.invariant.0 c.pairs-test.true c.loop_at-target.ensures c.loop_at-operational.ensures c.has_location.ensures in
-    let w = pair_whole c.args.device c.args.general _ _ _ _ _ q in
+    let w = pair_whole P.invariant.0 c.pairs-test.true c.loop_at-target.ensures c.loop_at-operational.ensures in
     omega (arith, w)
 
 pub overflow_add-offset-in-pairs-4 : goal.overflow_add-offset-in-pairs-4
 overflow_add-offset-in-pairs-4 c =
     let P = c.pairs in
-    let q = seen P.invariant.0 c.pairs-test.true c.loop_at-target.ensures c.loop_at-operational.ensures c.has_location.ensures in
-    let w = pair_whole c.args.device c.args.general _ _ _ _ _ q in
+    let w = pair_whole P.invariant.0 c.pairs-test.true c.loop_at-target.ensures c.loop_at-operational.ensures in
     omega (arith, w)
 
 pub pairs-smaller : goal.pairs-smaller
 pairs-smaller c =
     let P = c.pairs in
-    let q = seen P.invariant.0 c.pairs-test.true c.loop_at-target.ensures c.loop_at-operational.ensures c.has_location.ensures in
-    let w = pair_whole c.args.device c.args.general _ _ _ _ _ q in
+    let w = pair_whole P.invariant.0 c.pairs-test.true c.loop_at-target.ensures c.loop_at-operational.ensures in
     omega (arith, w, c.pairs-test.true)
 
 pub returns-after-pairs : goal.returns-after-pairs
