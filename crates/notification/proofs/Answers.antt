@@ -180,9 +180,6 @@ module _ (h : List ℕ) (o : ℕ) (a : Locates h o) (x y : List ℕ) (ex : x ≡
   pub told_is : told_at h o ≡ told (o + 2) 14 d
   told_is = ap (told (o + 2) 14) choice_is
 
-  pub chosen_inside : Inside x y d
-  chosen_inside = rw (ex, ey, ← choice_is) a.inside
-
 -- a part of what stands at the start of a slice is that part of the slice
 pub part_in : {start : ℕ × ℕ} {o : ℕ} {b d : List ℕ} {h r : Bor (List ℕ)} → Is start (part 0 b) h → Is h.ref_ptr (part o d) r → Is start (part o d) r
 part_in i j = record { bytes = j.bytes; block = j.block ∙ i.block; offset = omega (arith, j.offset, i.offset) }

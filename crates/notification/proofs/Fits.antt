@@ -64,14 +64,6 @@ worse_both true true false true = refl
 worse_both true true false false = refl
 
 -- ---- descriptors
-pub fit_right : (x : Fit) (t n : ℕ) → right_length t n ≡ true → x ≡ worse x (length_fit t n)
-unfolding length_fit fit_of pick
-fit_right x t n e = rw e (worse_exact x)
-
-pub fit_wrong : (x y : Fit) (t n : ℕ) → right_length t n ≡ false → y ≡ worse x OtherLength → y ≡ worse x (length_fit t n)
-unfolding length_fit fit_of pick
-fit_wrong x y t n e w = rw e w
-
 pub fit_end : (s : List ℕ) (x : Fit) → length s ≡ 0 → x ≡ worse x (descriptor_fit s)
 unfolding descriptor_fit fit_of pick
 fit_end s x h =

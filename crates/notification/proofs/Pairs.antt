@@ -134,6 +134,11 @@ pub none_holds : (t u : Bool) → t ≡ false → u ≡ false → either t u ≡
 unfolding either
 none_holds t u e f = rw (e, f)
 
+-- a pair that begins before the end ends before it
+pub pair_whole : {s x y : Bor (List ℕ)} {o : ℕ} → Turns s.now o → o < length s.now → Holds s o x → Holds s (o + 2 + length x.now) y
+    → o + 4 + length x.now + length y.now ≤ length s.now
+pair_whole {s} {x} {y} {o} t l h k = omega (arith, second_whole s.now o t l (o + 2 + length x.now) (omega (arith, h.size)), k.size)
+
 -- ---- the pair at o, before the end, with what the code has read of it: what its two loops hold, and whether the second has a location
 pub record Seen (s : Bor (List ℕ)) (o : ℕ) (x y : Bor (List ℕ)) (b : Bool) : Type 0 where
   turns : Turns s.now o
@@ -202,10 +207,6 @@ module _ (device : Address) (general : Bool) (s : Bor (List ℕ)) (o : ℕ) (x y
 
     pub passes : test (pair_at s.now o) ≡ false → Turns s.now after × (first_pair test (pairs_from s.now after) ≡ first_pair test (pairs_from s.now from))
     passes z = (next_turns s.now o q.turns q.before here second after next, skips s.now o q.turns q.before here second after next test z ∙ passed)
-
-  -- and all of it is there
-  pub pair_whole : o + 4 + length x.now + length y.now ≤ length s.now
-  pair_whole = omega (arith, second_whole s.now o q.turns q.before here second, next)
 
 -- ---- descriptors of a target loop
 module _ (device : Address) (s : List ℕ) (n : ℕ) (e : n ≡ descriptor_size s) where

@@ -92,6 +92,7 @@ fn loop_at<'a>(s: &'a [u8], offset: usize) -> &'a [u8]
 
 // The offset of the first pair that covers the device and has a location, or the end; `general` says that the platform loop has one. A loop
 // over the pairs and one over the addresses, left by label at the first hit, are promised (docs/PROMISES.md), and so no chain of iterators.
+#[tactic(auto, using(crate::proofs::Pairs::first_whole, crate::proofs::Pairs::second_whole, crate::proofs::Pairs::pair_whole, crate::proofs::Pairs::ends, notification_rules::proofs::Items::descriptor_two, notification_rules::proofs::Items::entry_some, wire::proofs::Lists::from))]
 fn search(device: Address, s: &[u8], from: usize, general: bool) -> usize
     requires { Turns s.now from }
     ensures { StopsAt device general s.now from result }
