@@ -1,10 +1,11 @@
 -- What the archive sender sends, and what it tells of a failure.
-use Rattle.std.specs.Prelude.{ℕ, ◌+◌, ◌≤◌, ◌<◌, ◌≡◌, ◌↔◌, Bool, false, List, [], eqb, length, take}
-use Rattle.wire.specs.Choice.{pick}
-use Rattle.stream.specs.declared.Input.{Input}
-use Rattle.stream.specs.declared.Input.TheVariants.{Bytes, Unreadable}
+use Rattle.std.specs.Prelude.{ℕ, ◌+◌, ◌≤◌, ◌<◌, ◌≡◌, ◌↔◌, false, List, [], length, take, Result, Ok, Err}
+use denote.Ref.{Bor}
 use Rattle.stream.specs.declared.Failure.{Failure}
-use Rattle.stream.specs.declared.Failure.TheVariants.{Nothing, Reading, Writing, Refused}
+use Rattle.stream.specs.declared.Failure.TheVariants as failure
+use Rattle.archive.specs.declared.NotSent.{NotSent}
+use Rattle.archive.specs.declared.NotSent.TheVariants.{Unreadable, Refused}
+use Rattle.rules.specs.Told.{number}
 use Rattle.rules.specs.Demand2.{Sections}
 use Rattle.rules.specs.Recording.{listing_settings}
 use Rattle.rules.specs.Send.{SendOutcome, sending_number, sending_length, sent_of}
@@ -19,15 +20,22 @@ pub record Says (o : SendOutcome) (number : ℕ) (text : List ℕ) : Type 0 wher
 abbrev pub archived_of : List ℕ → List ℕ → SendOutcome
 archived_of u out = sent_of listing_settings false 4080 u out
 
--- all that was read, from b, is one unit; where reading failed, nothing is said
-abbrev pub Archived : Input → List ℕ → List ℕ → ℕ → List ℕ → Type 0
-Archived (Bytes n) b out number text = Says (archived_of (take n b) out) number text
-Archived Unreadable b out number text = (number ≡ 0) × (text ≡ [])
+-- the sections go out, or nothing, and the refusal's number is told
+abbrev pub Told : SendOutcome → Result (Bor (List ℕ)) NotSent → Type 0
+Told o (Ok text) = Says o 0 text.now
+Told o (Err (Refused r)) = Says o (number r) []
+Told o (Err Unreadable) = ⊥
 
--- what has failed, where t says whether the sections are written: reading, the unit, which is refused by that number, or writing
-abbrev pub failure_of : Input → ℕ → Bool → Failure
-failure_of Unreadable number t = Reading
-failure_of (Bytes n) number t = pick (eqb number 0) (pick t Nothing Writing) Refused
+-- all that was read, from b, is one unit; where reading failed, nothing is said
+abbrev pub Archived : Result ℕ Failure → List ℕ → List ℕ → Result (Bor (List ℕ)) NotSent → Type 0
+Archived (Ok n) b out r = Told (archived_of (take n b) out) r
+Archived (Err e) b out r = r ≡ Err Unreadable
+
+-- what comes of the work, where w says whether the sections are written: reading has failed, the unit is refused, or w
+abbrev pub outcome_of : Result (Bor (List ℕ)) NotSent → Result Unit Failure → Result Unit Failure
+outcome_of (Ok text) w = w
+outcome_of (Err Unreadable) w = Err failure.Reading
+outcome_of (Err (Refused r)) w = Err failure.Refused
 
 -- ---- what requests 3 and 7 leave it
 -- what is told and sent of a unit

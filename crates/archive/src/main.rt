@@ -2,104 +2,101 @@
 // refused, only the refusal's number goes to the error output.
 #![tactic(auto)]
 
-ghost use Rattle.std.specs.Prelude.{◌≡◌};
+ghost use Rattle.std.specs.Prelude.{◌≡◌, IsOkUnless};
+ghost use Rattle.stream.specs.declared.Failure.TheVariants.{Reading, Writing};
 ghost use Rattle.stream.specs.Words.{Filled};
-ghost use Rattle.archive.specs.Archive.{Says, Archived, archived_of, failure_of};
+ghost use Rattle.archive.specs.Archive.{Archived, outcome_of};
 
-use rules::Sending;
+use rules::Refusal;
 use std::io::{Write, writer};
 use std::rt::Clock;
-use stream::{Failure, Input, read_some, write_whole};
+use stream::{Failure, read_some, write_whole};
+
+// Why no sections go out.
+#[derive(Clone, Copy)]
+enum NotSent {
+    Unreadable,
+    Refused(Refusal),
+}
 
 // Standard input to its end, or as much as the buffer has room for.
-fn read_input(rt: &(impl std::io::Input + Clock), buffer: &mut [u8]) -> Input
-    ensures { Filled result buffer.new }
+fn read_input(rt: &(impl std::io::Input + Clock), buffer: &mut [u8]) -> Result<usize, Failure>
+    ensures filled { Filled result buffer.new }
+    ensures failed { IsOkUnless result Reading }
 {
     let mut filled = 0;
     while filled < buffer.len() {
-        let Input::Bytes(more) = read_some(rt, &mut rt.reader(), &mut buffer[filled..]) else {
-            return Input::Unreadable;
-        };
+        let more = read_some(rt, &mut rt.reader(), &mut buffer[filled..])?;
         if more == 0 {
             break;
         }
         filled += more;
     }
-    Input::Bytes(filled)
+    Ok(filled)
 }
 
 // So that 65,280 bytes go out in 16 sections: where no piece size is given, pieces are smaller.
 const PIECE_SIZE: usize = 4080;
 
-// The unit's sections, which are the first bytes of `out`, and 0, or nothing and the refusal's number.
-fn sections<'a>(unit: &[u8], out: &'a mut [u8], number: &mut u8) -> &'a mut [u8]
-    ensures { Says (archived_of unit.now out.old) number.new result.now }
-{
-    match sender::send(recording::listing_settings(), false, PIECE_SIZE, unit, out) {
-        Sending::Sent(length) => {
-            *number = 0;
-            &mut out[..length]
-        }
-        Sending::Unsent(refusal) => {
-            *number = refusal;
-            &mut out[..0]
-        }
-    }
-}
-
-// What goes to standard output, and the number for the error output, or 0: the unit is all that was read. Where reading failed,
-// nothing goes out.
-fn archive<'a>(input: Input, buffer: &[u8], out: &'a mut [u8], number: &mut u8) -> &'a mut [u8]
+// What goes to standard output: the sections of the unit, which is all that was read. They are the first bytes of `out`.
+#[tactic(auto, unfolding(rules::specs::Told::sending_told), using(crate::proofs::Says::sends))]
+fn archive<'a>(
+    input: Result<usize, Failure>,
+    buffer: &[u8],
+    out: &'a mut [u8],
+) -> Result<&'a [u8], NotSent>
     requires { Filled input buffer.now }
-    ensures { Archived input buffer.now out.old number.new result.now }
+    ensures { Archived input buffer.now out.old result }
 {
-    let Input::Bytes(length) = input else {
-        *number = 0;
-        return &mut out[..0];
-    };
-    sections(&buffer[..length], out, number)
+    let length = input.map_err(|_| NotSent::Unreadable)?;
+    let unit = &buffer[..length];
+    let settings = recording::listing_settings();
+    let size = sender::send(settings, false, PIECE_SIZE, unit, out).map_err(NotSent::Refused)?;
+    Ok(&out[..size])
 }
 
-// The refusal's number and a line's end, to the error output.
-fn tell(clock: &impl Clock, errors: &mut impl Write, number: u8) {
+// The refusal's number and a line's end, to the error output. `writeln!` would give up where a write has to be made again.
+fn tell(clock: &impl Clock, errors: &mut impl Write, refusal: Refusal) {
     let mut text = [0u8; 20];
-    let k = io::decimal(number as u64, &mut text);
-    write_whole(clock, errors, &text[..k]);
-    write_whole(clock, errors, b"\n");
+    let k = io::decimal(u64::from(u8::from(refusal)), &mut text);
+    let _ = write_whole(clock, errors, &text[..k]);
+    let _ = write_whole(clock, errors, b"\n");
 }
 
-// Writes the sections, or the number of the refusal, and answers whether the sections are written.
-fn answer(rt: &(impl Print + Clock), errors: &mut impl Write, number: u8, sections: &[u8]) -> bool {
-    if number == 0 {
-        return write_whole(rt, &mut writer(rt), sections);
-    }
-    tell(rt, errors, number);
-    false
-}
-
-// What has failed: reading, the unit, which is refused, or writing.
-fn failure(input: Input, number: u8, written: bool) -> Failure
-    ensures { result ≡ failure_of input number written }
+// Writes the sections, or the number of the refusal.
+fn answer(
+    rt: &(impl Print + Clock),
+    errors: &mut impl Write,
+    archived: Result<&[u8], NotSent>,
+) -> Result<(), Failure>
+    ensures { IsOkUnless result Writing }
 {
-    let Input::Bytes(_) = input else {
-        return Failure::Reading;
-    };
-    if number != 0 {
-        return Failure::Refused;
+    match archived {
+        Ok(sections) => write_whole(rt, &mut writer(rt), sections),
+        Err(NotSent::Unreadable) => Ok(()),
+        Err(NotSent::Refused(refusal)) => {
+            tell(rt, errors, refusal);
+            Ok(())
+        }
     }
-    if written {
-        Failure::Nothing
-    } else {
-        Failure::Writing
+}
+
+// What comes of the work: reading has failed, the unit is refused, or its sections are written or not.
+fn outcome(archived: Result<&[u8], NotSent>, written: Result<(), Failure>) -> Result<(), Failure>
+    ensures { result ≡ outcome_of archived.entry written }
+{
+    match archived {
+        Ok(_) => written,
+        Err(NotSent::Unreadable) => Err(Failure::Reading),
+        Err(NotSent::Refused(_)) => Err(Failure::Refused),
     }
 }
 
 fn main(rt: HostRuntime) {
     let mut buffer = io::large_buffer();
     let mut out = io::large_buffer();
-    let mut number = 0;
     let input = read_input(&rt, &mut buffer);
-    let sections = archive(input, &buffer, &mut out, &mut number);
-    let written = answer(&rt, &mut rt.stderr(), number, sections);
-    stream::say(failure(input, number, written));
+    let archived = archive(input, &buffer, &mut out);
+    let written = answer(&rt, &mut rt.stderr(), archived);
+    stream::say(outcome(archived, written));
 }

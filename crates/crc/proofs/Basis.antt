@@ -45,7 +45,7 @@ unfoldable pub barrett_error : ℕ → ℕ
 barrett_error v = bit_xor (product barrett v % 2 ^ 32) (crc_bits 64 0 v)
 
 pub barrett_right : at_bits barrett_error 64 ≡ 0
-unfolding total barrett_error product added moved crc_bits crc_bit
+unfolding total barrett_error added moved crc_bits crc_bit
 barrett_right = refl
 
 -- a register goes in as the 32 high bits of a word

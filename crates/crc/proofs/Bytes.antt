@@ -7,11 +7,13 @@ use native.Mathlib.Omega.{arith}
 use native.Mathlib.Numerals.{add-one}
 use lib.ListN.{length, get_or, take, drop, length-drop, take-append-drop}
 use lib.Seq.{take-suc, take_all}
-use lib.Bits.{bit_xor, xor_zero_r, xor_self}
+use lib.Bits.{bit_xor, xor_lt, xor_zero_r, xor_self}
 use lib.Pow.{pow_mono, pow_pos, pow-add, field, mod-mod-pow, high, shr-shr}
 use lib.Pow as pow
+use Rattle.wire.proofs.Lists.{from}
 use Rattle.rules.specs.Crc.{start, crc_bit, crc_bits, crc_byte, crc_from, crc32}
-use Rattle.rules.proofs.Crc.{crc_bits_lt, crc_bits_add, crc_from_append, xor_assoc}
+use Rattle.std.specs.Int.Bits.{xor_assoc}
+use Rattle.rules.proofs.Crc.{crc_bits_lt, crc_bits_add, crc_from_append}
 use Rattle.crc.specs.Words.{number, words, crc_words, crc_after}
 use Rattle.crc.proofs.Shifts.{up, moved, total_at, xor_eq}
 use Rattle.crc.proofs.Basis.{ones_before, ones_after, start_error, start_right}
@@ -60,6 +62,10 @@ number_lt (suc k) s =
     let e : suc k * 8 ≡ k * 8 + 8 = omega arith in
     let p : 2 ^ (suc k * 8) ≡ 2 ^ (k * 8) * 256 = ap (λ n. 2 ^ n) e ∙ pow-add 2 (k * 8) 8 in
     omega (arith, p, number_lt k s, mod-lt (get_or s k 0) (pow_pos 8))
+
+-- a word, with what is added to it, is a number of 64 bits
+pub word_lt : (s : List ℕ) (z : ℕ) → z < 2 ^ 64 → bit_xor (number 8 s) z < 2 ^ 64
+word_lt s z h = xor_lt 64 (number 8 s) z (number_lt 8 s) h
 
 pub number_fits : (k : ℕ) (s : List ℕ) → k < 8 → number k s < 2 ^ 56
 number_fits k s h = let m : k * 8 ≤ 56 = omega (arith, h) in lt_of_lt_of_le (number_lt k s) (pow_mono m)
@@ -135,3 +141,6 @@ module _ (k : ℕ) (h : k < 8) where
       ∙ sym (whole_words (length t / 8) (bit_xor c y) t whole ∙ ap (crc_words (bit_xor c y) []) (first_word t some))
       ∙ ap (λ x. crc_from x t) (head_law s (omega (arith, odd, h8)) e)
       ∙ sym (crc_from_append (take k s) t start) ∙ ap (crc_from start) (take-append-drop k s)
+
+-- what `register` rests on
+pub ruleset register_laws = (short_law, long_law, from)

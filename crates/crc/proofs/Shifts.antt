@@ -8,7 +8,8 @@ use mathlib.Core.Logic.{⊎_elim}
 use native.Mathlib.Omega.{arith}
 use lib.Bits.{bit_xor, xor_zero_r, xor_self, xor_shr, xor_mod, xor_shifted}
 use lib.Pow.{pow_pos, split}
-use Rattle.rules.proofs.Crc.{bit_cases, xor_assoc, xor_four, xor_shl}
+use Rattle.std.specs.Int.Bits.{xor_assoc}
+use Rattle.rules.proofs.Crc.{bit_cases, xor_four, xor_shl}
 
 -- a word of 64 bits where it is, moved up or moved down
 pub data Shift : Type 0 where
@@ -27,7 +28,7 @@ added a [] v = a
 added a (m ∷ ms) v = added (bit_xor a (moved m v)) ms v
 
 -- v added to its own shifts, list after list
-unfoldable pub product : List (List Shift) → ℕ → ℕ
+abbrev pub product : List (List Shift) → ℕ → ℕ
 product [] v = v
 product (ms ∷ mss) v = product mss (added v ms v)
 
@@ -57,7 +58,6 @@ added_apart (m ∷ ms) a b v =
     ap (λ x. added x ms v) (xor_assoc a b (moved m v)) ∙ added_apart ms a (bit_xor b (moved m v)) v
 
 pub product_add : (mss : List (List Shift)) → Adds (product mss)
-unfolding product
 product_add [] a b = refl
 product_add (ms ∷ mss) a b = ap (product mss) (added_add ms a b a b) ∙ product_add mss (added a ms a) (added b ms b)
 

@@ -8,20 +8,20 @@ ghost use Rattle.rules.specs.Crc.{crc_bits, crc32};
 ghost use Rattle.crc.specs.Words.{number, crc_after};
 
 // The first `count` bytes as one number; written so, eight of them are one load.
+#[tactic(auto, unfolding(crate::specs::Words::number), using(crate::proofs::Bytes::number_more, crate::proofs::Bytes::number_fits))]
 fn read(s: &[u8], count: usize) -> u64
     requires { (count ≤ 8) × (count ≤ length s.now) }
     ensures { result ≡ number count s.now }
 {
     let mut joined: u64 = 0;
-    let mut i: usize = 0;
-    while i < count {
-        joined = joined * 256 + s[i] as u64;
-        i += 1;
+    for byte in &s[..count] {
+        joined = joined * 256 + u64::from(*byte);
     }
     joined
 }
 
 // The first word, with what is still to be added to it.
+#[tactic(auto, using(crate::proofs::Bytes::word_lt))]
 fn next(s: &[u8], z: u64) -> u64
     requires { 8 ≤ length s.now }
     ensures { (result ≡ bit_xor (number 8 s.now) z) × (result < 2 ^ 64) }
@@ -31,6 +31,7 @@ fn next(s: &[u8], z: u64) -> u64
 
 // Barrett's reduction. The reciprocal of the polynomial and the polynomial itself are each, in the bits that count, a
 // product of two polynomials with fewer terms.
+#[tactic(auto, unfolding(crate::proofs::Shifts::added, crate::proofs::Shifts::moved), using(crate::proofs::Clear::reduces))]
 fn reduce(v: u64) -> u32
     ensures { result ≡ crc_bits 64 0 v }
 {
@@ -42,7 +43,11 @@ fn reduce(v: u64) -> u32
     (product % 0x1_0000_0000) as u32
 }
 
+// The two walks stay two, each with its own multiple's shifts, and go by `&rest[8..]`: they leave one word, or four and five, so that a `for`
+// over `chunks_exact` would need those counted and cut off first, which is no plainer.
+
 // Down to the last word by x^120 + x^56 + x^40 + x^33 + x^15 + x^9 + x^8 + x + 1, which reaches only two words on.
+#[tactic(auto, unfolding(crate::proofs::Shifts::moved), using(rules::proofs::Crc::crc_bits_lt, crate::proofs::Clear::last_word))]
 fn by_near(s: &[u8], first: u64, a1: u64, a2: u64, a3: u64, a4: u64) -> u32
     requires { 8 ≤ length s.now }
     ensures { result ≡ crc_after first (a1 ∷ a2 ∷ a3 ∷ a4 ∷ []) s.now }
@@ -94,6 +99,7 @@ fn by_far(s: &[u8], first: u64, a1: u64) -> u32
 
 // The odd bytes come first, at the low end of a word, since zeros before them change nothing in a register of zeros.
 // The 32 ones that the register starts with are added to the first 32 bits instead.
+#[tactic(auto, unfolding(crate::proofs::Basis::ones_before, crate::proofs::Basis::ones_after), using(crate::proofs::Bytes::register_laws))]
 fn register(s: &[u8]) -> u32
     ensures { result ≡ crc32 s.now }
 {

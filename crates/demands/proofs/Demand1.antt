@@ -47,7 +47,7 @@ named : {t o : Step} → o ≡ t → NamedByNumber o.answer → NamedByNumber t.
 named e w = subst (λ (t : Step). NamedByNumber t.answer) e w
 
 named_in_code : (a : Result Reception Refusal) → NamedByNumber (answer_told a) → NamedInCode a
-unfolding answer_told
+unfolding answer_told number_of
 named_in_code a w =
     record {
       refused = refused a;
@@ -59,11 +59,10 @@ named_in_code a w =
     refused : (a : Result Reception Refusal)
         → number_of (answer_told a) ≢ 2 → number_of (answer_told a) ≢ 1 → number_of (answer_told a) ≢ 0
         → (r : Refusal) × (a ≡ Err r) × (number r ≡ number_of (answer_told a))
-    unfolding answer_told number_of
     refused (Ok (Delivered n)) two one none = absurd (none refl)
     refused (Ok Stored) two one none = absurd (one refl)
     refused (Ok PassedBy) two one none = absurd (two refl)
-    refused (Err r) two one none = (r, (refl, refl))
+    refused (Err r) two one none = (r, refl, refl)
 
 pub demand_1 : Demand1
 unfolding gap_of state_bytes

@@ -11,10 +11,11 @@ use Rattle.wire.specs.Part.{Is, Part}
 use Rattle.rules.specs.declared.Address.{Address}
 use Rattle.notification_rules.specs.Format.{Answer, answer_to, found_nobody, Gives, refused_with}
 use Rattle.notification_rules.specs.Finding.{finding_number, finding_of}
-use Rattle.notification_rules.specs.Told.{finding_told}
+use Rattle.notification_rules.specs.Told.{finding_told, Handed, read_number}
 use Rattle.notification_rules.proofs.Answered.{written_is_found}
 use Rattle.notification_rules.proofs.Exactly.{others_give_nothing, taken_exactly}
 use Rattle.notification_rules.proofs.Meaning.{notification_means}
+use Rattle.notification_rules.proofs.Told.{handed_is, read_number_is}
 use Rattle.pes_rules.specs.Reading.{Reading}
 use Rattle.pes_rules.specs.Packet.{data_of, read_of}
 use Rattle.pes_rules.specs.Written.{data_part_of, Gives as GivesPacket, reading_of}
@@ -92,7 +93,9 @@ readers =
     record {
       finding = λ κs (device, (s, _)) z e p. findings device s.now (finding_number (finding_told z)) _ (ap finding_number p) (λ x g. p ∙ g.finding);
       notification_read = λ κs (device, (s, _)) z e p.
-          findings device s.now _ _ p.number (λ x g. (p.number ∙ g.number, same_part _ _ _ z g.given p.part));
+          let number : read_number z ≡ finding_number (finding_of device s.now) = read_number_is device s z p in
+          findings device s.now (read_number z) _ number
+          (λ x g. (number ∙ g.number, subst (λ (q : Part). Handed s.ref_ptr q z) g.given (handed_is device s z p)));
       fossknut_notification = λ κs a z e p. let given : NotificationGiven = notification_given κs a in
           findings given.device given.section z _ p.number (λ x g. (p.number ∙ g.number, p.offset ∙ g.offset));
       pes_read = λ κs (packet, _) z e p. packets packet.now (told z).answer _ (ap (λ (r : Reading). r.answer) p) (λ r q g. p ∙ g.reading);

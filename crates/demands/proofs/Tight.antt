@@ -2,7 +2,7 @@
 use mathlib.Core.Path.{sym, ◌∙◌}
 use Rattle.wire.proofs.Puts.{puts_once}
 use Rattle.rules.proofs.Told.{refusal_number_same, sending_same, step_same}
-use Rattle.notification_rules.proofs.Told.{finding_same}
+use Rattle.notification_rules.proofs.Told.{finding_same, read_same}
 use Rattle.pes_rules.proofs.Told.{told_injective}
 use Rattle.demands.specs.Tight.{Tight}
 
@@ -47,7 +47,7 @@ tight =
       send_by_default = λ κs a z y e d p q. (sending_same z y (p.sending ∙ sym q.sending), p.output ∙ sym q.output);
       listing_settings = λ κs a z y e d p q. p ∙ sym q;
       offer_length = λ κs a z y e d p q. p ∙ sym q;
-      notification_read = λ κs a z y e d p q. (p.number ∙ sym q.number, (p.part.bytes ∙ sym q.part.bytes, p.part.block ∙ sym q.part.block, p.part.offset ∙ sym q.part.offset));
+      notification_read = λ κs (device, (s, _)) z y e d p q. read_same device s z y p q;
       finding = λ κs a z y e d p q. finding_same z y (p ∙ sym q);
       pes_refusal_number = λ κs a z y e d p q. p ∙ sym q;
       pes_read = λ κs a z y e d p q. told_injective z y (p ∙ sym q);

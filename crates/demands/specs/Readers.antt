@@ -10,7 +10,7 @@ use Rattle.rules.specs.Address.{address_bytes}
 use Rattle.notification_rules.specs.Format.{Answer, answer_to, Conforms, found_nobody, Notification, notification_written, refused_with, Written}
 use Rattle.notification_rules.specs.Meaning.{notification_rows}
 use Rattle.notification_rules.specs.Finding.{finding_number}
-use Rattle.notification_rules.specs.Told.{finding_told}
+use Rattle.notification_rules.specs.Told.{finding_told, Handed, read_number}
 use Rattle.pes_rules.specs.Reading.{Reading}
 use Rattle.pes_rules.specs.Meaning.{packet_rows}
 use Rattle.pes_rules.specs.Told.{told}
@@ -59,10 +59,10 @@ packet_numbers r p =
 pub record Readers : Type 0 where
   pub finding : Allowed contracts.finding
       (λ κs (device, (s, _)) z e. Findings device s.now (finding_number (finding_told z)) (λ x. finding_told z ≡ x.finding))
-  -- the number is written through `answer`; z is that part of the section, bytes and offset
+  -- z hands out that part of the section, bytes and offset
   pub notification_read : Allowed contracts.notification_read
-      (λ κs (device, (s, _)) z (_, (_, (answer, _))).
-      Findings device s.now answer.now (λ x. (answer.now ≡ x.number) × Is s.ref_ptr x.given z))
+      (λ κs (device, (s, _)) z e.
+      Findings device s.now (read_number z) (λ x. (read_number z ≡ x.number) × Handed s.ref_ptr x.given z))
   pub fossknut_notification : Allowed contracts.fossknut_notification
       (λ κs a z e. let given = notification_given κs a in
       Findings given.device given.section z (λ x. (z ≡ x.number) × (offset_gave κs e ≡ x.given.offset)))

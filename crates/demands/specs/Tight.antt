@@ -2,6 +2,7 @@
 -- `Learnt` is the contract itself, not a copy: what a caller learns of the result and of what it lent.
 use Rattle.std.specs.Prelude.{ℕ, ◌≡◌, List}
 use Rattle.std.specs.Borrow.{Bor}
+use Rattle.notification_rules.specs.Told.{SameRead}
 use Rattle.demands.specs.Abroad.{default_gave, gap_gave, offset_gave, packet_gave, receive_gave, send_gave}
 use Rattle.demands.specs.Allowed.{AnyTwo, Function}
 use Rattle.demands.specs.Functions as contracts
@@ -71,9 +72,9 @@ pub record Tight : Type 0 where
   -- recording
   pub listing_settings : OneResult contracts.listing_settings
   pub offer_length : OneResult contracts.offer_length
-  -- notification: the number that is written, and the part of the section
+  -- notification: the refusal, or the part of the section
   pub notification_read : AnyTwo contracts.notification_read
-      (λ κs z y (_, (_, (e, _))) (_, (_, (d, _))). (e.now ≡ d.now) × SamePart z y)
+      (λ κs z y e d. SameRead z y)
   pub finding : OneResult contracts.finding
   -- pes_rules, pes
   pub pes_refusal_number : OneResult contracts.pes_refusal_number

@@ -2,7 +2,7 @@
 use Rattle.std.specs.Prelude.{ℕ, ◌-◌, ◌≡◌, List}
 use Rattle.rules.specs.Send.{SendOutcome, sending_number, sending_length}
 use Rattle.rules.specs.Step.{Outcome, number_of, length_of}
-use Rattle.notification_rules.specs.declared.Finding.{Finding}
+use Rattle.notification_rules.specs.Answers.{Finding}
 use Rattle.notification_rules.specs.Finding.{finding_number, finding_offset}
 use Rattle.pes_rules.specs.Reading.{Reading}
 use Rattle.caller_numbers.specs.Numbers.{flag_number, state_bytes}

@@ -6,6 +6,7 @@ use mathlib.Core.Path.{◌≡◌, refl, sym, subst, ap, ap₂, fun_ext, ◌∙�
 use mathlib.Core.Bool.{Bool, true, false, not}
 use mathlib.Core.List.{List, [], ◌∷◌, Memᴰ}
 use mathlib.Core.Option.{some}
+use Rattle.std.specs.Prelude.{Option, Some, None, Ok}
 use lib.ListN.{length, take, drop, length-drop, length-take}
 use lib.Seq.{drop-drop, take-take}
 use borrow.Author.Tests.{lt-ltb, le-ltb, ne_eqb}
@@ -13,24 +14,25 @@ use denote.Ref.{Bor}
 use Rattle.wire.specs.Choice.{pick, both, either}
 use Rattle.wire.proofs.Choice.{both_true, never}
 use Rattle.rules.specs.declared.Address.{Address}
-use Rattle.notification_rules.specs.declared.Finding.{Finding}
-use Rattle.notification_rules.specs.declared.Finding.TheVariants.{Nobody, Refused}
+use Rattle.rules.specs.declared.Refusal.{Refusal}
+use Rattle.rules.specs.Told.{number}
+use Rattle.rules.proofs.Told.{numbered}
+use Rattle.notification_rules.specs.Answers.{Found, Nobody, Refused}
+use Rattle.notification_rules.specs.Told.{Answered}
 use Rattle.wire.specs.Part.{Part, part, Is}
 use Rattle.notification_rules.specs.Cut.{cut_of, stop, more, is_nil, odd, from_offset}
 use Rattle.rules.specs.Section.{checked}
 use Rattle.notification_rules.specs.Loop.{loop_size, loop_cut, loops_of, content, descriptor_items, descriptors_of, Pair}
 use Rattle.notification_rules.specs.Target.{is_cover, cover_of, Location, nowhere, somewhere, located, is_location, or_else, location_of, answers, first_pair}
-use Rattle.notification_rules.specs.Finding.{refusal, fits, known, found, chosen, searched, finding_of, finding_number, part_of, Answered}
+use Rattle.notification_rules.specs.Finding.{refusal, fits, known, found, chosen, searched, finding_of}
 use Rattle.notification_rules.proofs.Items.{loop_two, loops_stop}
 use Rattle.notification_rules.proofs.Parts.{every_one, offset_member}
 use Rattle.notification_rules.proofs.Sound.{sound}
 use Rattle.notification_rules.proofs.Found.{unrefused, First, first_is}
 use Rattle.notification_rules.proofs.Located.{operational_one, split_one}
 use Rattle.notification.specs.declared.location.Choice.{Choice}
-use Rattle.notification.specs.declared.location.Choice.TheVariants.{Own, Platform, Neither}
-use Rattle.notification.specs.Readers.{loop_at, choice_of, told, Inside, Nine, Picked, Turns, pairs_from, pair_at, answers_by, pair_or_end, StopsAt, platform_at, pairs_offset, choice_at, told_at, Locates, Answers, Tells}
-use Rattle.notification.specs.declared.Sought.{Sought}
-use Rattle.notification.specs.declared.Sought.TheVariants.{PairAt}
+use Rattle.notification.specs.declared.location.Choice.TheVariants.{Own, Platform}
+use Rattle.notification.specs.Readers.{loop_at, choice_of, told, Inside, Gives, Nine, Picked, Turns, pairs_from, pair_at, answers_by, pair_or_end, StopsAt, platform_at, pairs_offset, choice_at, told_at, Locates, Answers, Tells}
 use Rattle.notification.proofs.Fits.{drop_take}
 use Rattle.notification.proofs.Locations.{here, choice_tells, choice_inside}
 use Rattle.notification.proofs.Pairs.{cut_here, length_loop_at, second_whole}
@@ -38,21 +40,10 @@ use Rattle.notification.proofs.Pairs.{cut_here, length_loop_at, second_whole}
 pub below : {a b : ℕ} → a ≤ b → (a ≡ b → ⊥) → a < b
 below h n = omega arith
 
--- ---- a refusal, and nobody
-pub answered_empty : (device : Address) (s r : Bor (List ℕ)) (n : ℕ) (x : Finding) → finding_of device s.now ≡ x → n ≡ finding_number x
-    → part 0 [] ≡ part_of s.now x → r.now ≡ [] → r.ref_ptr ≡ s.ref_ptr → Answered device s n r
-answered_empty device s r n x e en ep b p =
-    record {
-      number = rw e en;
-      part = rw (e, ← ep) (record { bytes = b; block = ap (λ (q : ℕ × ℕ). q.0) p; offset = ap (λ (q : ℕ × ℕ). q.1) p ∙ zero_more s.ref_ptr.1 });
-    }
-  where
-    zero_more : (n : ℕ) → n ≡ 0 + n
-    zero_more n = omega arith
-
-pub finding_refused : (device : Address) (s : List ℕ) (n : ℕ) → n ≡ refusal s → (n ≡ 0 → ⊥) → finding_of device s ≡ Refused n
+-- ---- a refusal, and none
+pub finding_refused : (device : Address) (s : List ℕ) (r : Refusal) → number r ≡ refusal s → finding_of device s ≡ Refused (number r)
 unfolding finding_of pick
-finding_refused device s n e z = rw (← e, ne_eqb n 0 z)
+finding_refused device s r e = rw (← e, ne_eqb (number r) 0 (numbered r))
 
 -- ---- the loops of a section that is not refused, with h what stands before its CRC_32
 fits_stop : (s : List ℕ) → fits (stop s) ≡ false
@@ -178,12 +169,11 @@ module _ (device : Address) (s h : List ℕ) (eh : h ≡ checked s) (z : refusal
           }
 
 -- ---- the pair that answers, with what the code has read: h before the CRC_32, x of the operational loop at o, and y of the platform loop
-pub pair_answers : (device : Address) (s h : List ℕ) (o : ℕ) (f : Sought) → Tells device s f → f ≡ PairAt o → h ≡ checked s
-    → Answers device s h o
-pair_answers device s h o f w e eh = rw eh (rw e at w)
+pub pair_answers : (device : Address) (s h : List ℕ) (o : ℕ) → Tells device s (Ok (Some o)) → h ≡ checked s → Answers device s h o
+pair_answers device s h o w eh = rw eh w
 
 module _ (h : List ℕ) (o : ℕ) (a : Locates h o) (x y : List ℕ) (ex : x ≡ content (loop_at h o)) (ey : y ≡ content (loop_at h 12))
-    (c d : Choice) (ec : c ≡ choice_of x y) (ed : c ≡ d) where
+    (c d : Option Choice) (ec : c ≡ choice_of x y) (ed : c ≡ d) where
   choice_is : choice_at h o ≡ d
   choice_is = sym (ap₂ choice_of ex ey) ∙ sym ec ∙ ed
 
@@ -218,9 +208,11 @@ module _ (s h : List ℕ) (eh : h ≡ checked s) (start : ℕ × ℕ) where
       ∙ ap (λ (l : List ℕ). take 9 (drop (n + 2 + k) l)) eh
       ∙ nine_first (n + 2 + k) (length s - 4) s (omega (arith, length-take (length s - 4) s))
 
-  nine_of : (n k : ℕ) (x r : Bor (List ℕ)) → n + loop_size (drop n h) ≤ length h → Is start (part (n + 2) (content (loop_at h n))) x
-      → k + 9 ≤ length (content (loop_at h n)) → Nine x k r → Is start (part (n + 2 + k) (take 9 (drop (n + 2 + k) s))) r
-  nine_of n k x r w i l q =
+  nine_of : (n k : ℕ) (x : Bor (List ℕ)) (r : Option (Bor (List ℕ))) → n + loop_size (drop n h) ≤ length h
+      → Is start (part (n + 2) (content (loop_at h n))) x → k + 9 ≤ length (content (loop_at h n)) → Nine x k r
+      → Gives start (part (n + 2 + k) (take 9 (drop (n + 2 + k) s))) r
+  nine_of n k x None w i l q = q (rw i.bytes l)
+  nine_of n k x (Some r) w i l q =
       let j = q (rw i.bytes l) in
       record {
         bytes = j.bytes ∙ ap (λ (b : List ℕ). take 9 (drop k b)) i.bytes ∙ nine_bytes n k w l;
@@ -228,13 +220,21 @@ module _ (s h : List ℕ) (eh : h ≡ checked s) (start : ℕ × ℕ) where
         offset = omega (arith, j.offset, i.offset);
       }
 
-  module _ (device : Address) (o : ℕ) (a : Answers device s h o) (x y r : Bor (List ℕ)) (ex : Is start (part (o + 2) (content (loop_at h o))) x)
+  module _ (device : Address) (o : ℕ) (a : Answers device s h o) (x y : Bor (List ℕ)) (r : Option (Bor (List ℕ))) (ex : Is start (part (o + 2) (content (loop_at h o))) x)
       (ey : Is start (part 14 (content (loop_at h 12))) y) where
-    given : (c : Choice) → Inside (content (loop_at h o)) (content (loop_at h 12)) c → Picked x y c r
-        → (3 ≡ finding_number (told (o + 2) 14 c)) × Is start (part_of s (told (o + 2) 14 c)) r
-    given (Own k) i p = (refl, nine_of o k x r a.locates.operational ex i p)
-    given (Platform k) i p = (refl, nine_of 12 k y r a.locates.platform ey i p)
-    given Neither i p = absurd i
+    given : (c : Option Choice) → Inside (content (loop_at h o)) (content (loop_at h 12)) c → Picked x y c r
+        → (p : ℕ) × (told (o + 2) 14 c ≡ Found p) × Gives start (part p (take 9 (drop p s))) r
+    given (Some (Own k)) i p = (o + 2 + k, refl, nine_of o k x r a.locates.operational ex i p)
+    given (Some (Platform k)) i p = (14 + k, refl, nine_of 12 k y r a.locates.platform ey i p)
+    given None i p = absurd i
 
-    pub found_given : Picked x y (choice_of x.now y.now) r → (3 ≡ finding_number (finding_of device s)) × Is start (part_of s (finding_of device s)) r
-    found_given p = rw a.told (given (choice_at h o) a.locates.inside (subst (λ (c : Choice). Picked x y c r) (ap₂ choice_of ex.bytes ey.bytes) p))
+    pub found_given : Picked x y (choice_of x.now y.now) r
+        → (p : ℕ) × (finding_of device s ≡ Found p) × Gives start (part p (take 9 (drop p s))) r
+    found_given p =
+        rw a.told (given (choice_at h o) a.locates.inside (subst (λ (c : Option Choice). Picked x y c r) (ap₂ choice_of ex.bytes ey.bytes) p))
+
+-- and they are the answer
+pub answered : (device : Address) (s : Bor (List ℕ)) (r : Option (Bor (List ℕ)))
+    → (p : ℕ) × (finding_of device s.now ≡ Found p) × Gives s.ref_ptr (part p (take 9 (drop p s.now))) r → Answered device s (Ok r)
+answered device s None a = absurd a.2
+answered device s (Some r) a = a

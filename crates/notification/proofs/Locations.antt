@@ -1,11 +1,12 @@
 -- The first 0x13 is the descriptor at the front, or that of the rest, which stands as many bytes later.
 use Prim.Native.Nat.{ℕ, ◌+◌, ◌-◌, ◌≤◌, ◌<◌}
+use Rattle.std.specs.Prelude.{Option, Some, None, is_some}
+use denote.Ref.{Bor}
 use native.Mathlib.Omega.{arith}
-use native.Mathlib.Decide.{dec_le}
-use mathlib.Core.Path.{◌≡◌, refl, sym, ap, ap₂, ◌∙◌}
-use mathlib.Core.Bool.{Bool, true, false, not}
+use mathlib.Core.Path.{◌≡◌, refl, ap, ap₂, ◌∙◌}
+use mathlib.Core.Bool.{Bool, true, false}
 use mathlib.Core.List.{List, [], ◌∷◌}
-use lib.ListN.{length, take, drop, length-drop, drop_of_length-le}
+use lib.ListN.{length, take, drop, length-drop}
 use lib.Seq.{drop-drop}
 use lib.Dec.{eqb}
 use borrow.Author.Tests.{eq-eqb, ne_eqb}
@@ -13,106 +14,79 @@ use Rattle.wire.specs.Choice.{pick}
 use Rattle.wire.specs.Bytes.{byte_at}
 use Rattle.wire.specs.Part.{part}
 use Rattle.wire.proofs.Choice.{never}
-use Rattle.notification_rules.specs.declared.Finding.TheVariants.{Found}
+use Rattle.notification_rules.specs.Answers.{Found}
 use Rattle.notification_rules.specs.Cut.{from_offset}
 use Rattle.notification_rules.specs.Loop.{descriptor_size, descriptor_items, tag}
 use Rattle.notification_rules.specs.Target.{stream_location, Location, nowhere, somewhere, located, is_location, or_else}
 use Rattle.notification_rules.specs.Finding.{found, known}
-use Rattle.notification_rules.proofs.Items.{descriptor_two, located_stop, located_more}
+use Rattle.notification_rules.proofs.Items.{located_stop, located_more}
 use Rattle.notification_rules.proofs.Located.{nine_in}
-use Rattle.notification.specs.declared.location.Choice.TheVariants.{Own, Platform, Neither}
-use Rattle.notification.specs.Readers.{front, Reaches, choose, choice_of, told, Inside}
-
-front_some : (o : ℕ) (b : List ℕ) → descriptor_size b ≤ length b → front o b ≡ somewhere (part o (take (descriptor_size b) b))
-unfolding front
-front_some o [] h = absurd (omega (arith, descriptor_two []))
-front_some o (x ∷ b) h = refl
-
-front_none : (o : ℕ) (b : List ℕ) → length b ≡ 0 → front o b ≡ nowhere
-unfolding front
-front_none o [] h = refl
-front_none o (x ∷ b) h = absurd (omega arith)
+use Rattle.notification.specs.declared.location.Choice.TheVariants.{Own, Platform}
+use Rattle.notification.specs.Readers.{From, Reaches, Has, choose, choice_of, told, Inside}
 
 -- ---- a loop from its first 0x13 on
-module _ (s r : List ℕ) (n : ℕ) (e : n ≡ descriptor_size s) where
-  pub reaches_end : length s < n → r ≡ drop (length s) s → Reaches s r
-  unfolding front
-  reaches_end h i =
-      let l : length s < descriptor_size s = omega arith in
-      let g : length s ≤ length s = omega arith in
-      let z : r ≡ [] = i ∙ drop_of_length-le s g in
-      record {
-        passed = length s;
-        inside = g;
-        bytes = i;
-        first = λ o. located_stop o s l ∙ sym (ap (front (length s + o)) z);
-        whole = λ q. absurd (q (ap length z));
-      }
+pub reaches_end : (s : List ℕ) (n : ℕ) → n ≡ descriptor_size s → length s < n → Reaches s None
+reaches_end s n e h o = let l : length s < descriptor_size s = omega arith in located_stop o s l
 
-  pub reaches_more : n ≤ length s → (byte_at s 0 ≡ stream_location → ⊥) → Reaches (drop n s) r → Reaches s r
-  unfolding pick
-  reaches_more h q c =
-      let l : descriptor_size s ≤ length s = omega arith in
-      record {
-        passed = n + c.passed;
-        inside = omega (arith, c.inside, length-drop n s);
-        bytes = c.bytes ∙ drop-drop c.passed n s;
-        first = λ o.
-            let m : c.passed + (o + n) ≡ n + c.passed + o = omega arith in
-            rw (located_more o s l, ne_eqb (byte_at s 0) stream_location q, ← e) (c.first (o + n) ∙ ap (λ (j : ℕ). front j r) m);
-        whole = c.whole;
-      }
-
-pub reaches_here : (s : List ℕ) (n : ℕ) → n ≡ descriptor_size s → n ≤ length s → byte_at s 0 ≡ stream_location → Reaches s s
+pub reaches_here : (s : List ℕ) (r : Bor (List ℕ)) (n : ℕ) → r.now ≡ s → n ≡ descriptor_size s → n ≤ length s → byte_at s 0 ≡ stream_location
+    → Reaches s (Some r)
 unfolding pick
-reaches_here s n e h q =
+reaches_here s r n i e h q =
     let l : descriptor_size s ≤ length s = omega arith in
     record {
       passed = 0;
       inside = omega arith;
-      bytes = refl;
+      bytes = i;
       first = λ o.
-          let k : 0 + o ≡ o = omega arith in
-          rw (located_more o s l, eq-eqb (byte_at s 0) stream_location q, k) (sym (front_some o s l));
-      whole = λ _. l;
+          let k : o ≡ 0 + o = omega arith in
+          rw (located_more o s l, eq-eqb (byte_at s 0) stream_location q, i) (ap (λ (j : ℕ). somewhere (part j (take (descriptor_size s) s))) k);
     }
 
-module _ (s r : List ℕ) (c : Reaches s r) where
+pub reaches_more : (s : List ℕ) (r : Option (Bor (List ℕ))) (n : ℕ) → n ≡ descriptor_size s → n ≤ length s
+    → (byte_at s 0 ≡ stream_location → ⊥) → Reaches (drop n s) r → Reaches s r
+unfolding pick
+reaches_more s None n e h q c =
+    λ o.
+    let l : descriptor_size s ≤ length s = omega arith in
+    rw (located_more o s l, ne_eqb (byte_at s 0) stream_location q, ← e) (c (o + n))
+reaches_more s (Some r) n e h q c =
+    let l : descriptor_size s ≤ length s = omega arith in
+    record {
+      passed = n + c.passed;
+      inside = omega (arith, c.inside, length-drop n s);
+      bytes = c.bytes ∙ drop-drop c.passed n s;
+      first = λ o.
+          let m : c.passed + (o + n) ≡ n + c.passed + o = omega arith in
+          rw (located_more o s l, ne_eqb (byte_at s 0) stream_location q, ← e)
+          (c.first (o + n) ∙ ap (λ (j : ℕ). somewhere (part j (take (descriptor_size r.now) r.now))) m);
+    }
+
+pub has_is : (s : List ℕ) (r : Option (Bor (List ℕ))) → Reaches s r → Has s (is_some r)
+unfolding is_location
+has_is s None c o = rw (c o)
+has_is s (Some r) c o = rw (c.first o)
+
+module _ (s r : List ℕ) (c : From s r) where
   pub rest_inside : length r ≤ length s
   rest_inside = omega (arith, ap length c.bytes ∙ length-drop c.passed s)
 
-  none_there : length r ≡ 0 → (o : ℕ) → located (from_offset o (descriptor_items s)) ≡ nowhere
-  none_there z o = c.first o ∙ front_none (c.passed + o) r z
-
-  module _ (z : length r ≡ 0 → ⊥) where
-    one_there : (o : ℕ) → located (from_offset o (descriptor_items s)) ≡ somewhere (part (c.passed + o) (take (descriptor_size r) r))
-    one_there o = c.first o ∙ front_some (c.passed + o) r (c.whole z)
-
-    -- where it stands, by what is left
-    stands_at : c.passed + 0 + 2 ≡ length s - length r + 2
-    stands_at = omega (arith, c.inside, ap length c.bytes ∙ length-drop c.passed s)
-
-  pub has_some : (o : ℕ) → not (eqb (length r) 0) ≡ is_location (located (from_offset o (descriptor_items s)))
-  unfolding is_location
-  has_some o = go (dec_le 1 (length r))
-    where
-      go : Dec (1 ≤ length r) → not (eqb (length r) 0) ≡ is_location (located (from_offset o (descriptor_items s)))
-      go (yes l) = rw (ne_eqb (length r) 0 (λ z. omega (arith, z, l)), one_there (λ z. omega (arith, z, l)) o)
-      go (no l) = let z : length r ≡ 0 = omega arith in rw (eq-eqb (length r) 0 z, none_there z o)
+  -- where it stands, by what is left
+  stands_at : c.passed + 0 + 2 ≡ length s - length r + 2
+  stands_at = omega (arith, c.inside, ap length c.bytes ∙ length-drop c.passed s)
 
   -- ---- the choice, by what is left of each loop
-  pub chosen_own : (t : List ℕ) → (length r ≡ 0 → ⊥) → Own (length s - length r + 2) ≡ choice_of s t
+  pub chosen_own : (t : List ℕ) → Some (Own (length s - length r + 2)) ≡ choice_of s t
   unfolding choice_of choose
-  chosen_own t z = rw (one_there z 0, stands_at z)
+  chosen_own t = rw (c.first 0, stands_at)
 
-module _ (s r t v : List ℕ) (c : Reaches s r) (d : Reaches t v) (z : length r ≡ 0) where
-  pub chosen_platform : (length v ≡ 0 → ⊥) → Platform (length t - length v + 2) ≡ choice_of s t
+module _ (s t : List ℕ) (c : Reaches s None) where
+  pub chosen_platform : (v : List ℕ) → From t v → Some (Platform (length t - length v + 2)) ≡ choice_of s t
   unfolding choice_of choose
-  chosen_platform y = rw (none_there s r c z 0, one_there t v d y 0, stands_at t v d y)
+  chosen_platform v d = rw (c 0, d.first 0, stands_at t v d)
 
-  pub chosen_neither : length v ≡ 0 → Neither ≡ choice_of s t
+  pub chosen_none : Reaches t None → None ≡ choice_of s t
   unfolding choice_of choose
-  chosen_neither y = rw (none_there s r c z 0, none_there t v d y 0)
+  chosen_none d = rw (c 0, d 0)
 
 -- ---- what the choice tells of two loops, wherever they stand
 moved : ℕ → Location → Location

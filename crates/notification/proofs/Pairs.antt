@@ -4,10 +4,12 @@ use native.Mathlib.Omega.{arith}
 use native.Mathlib.Decide.{dec_le}
 use mathlib.Core.Path.{◌≡◌, refl, sym, ap, ap₂, ◌∙◌}
 use mathlib.Core.Bool.{Bool, true, false, not}
-use mathlib.Core.List.{List, [], ◌∷◌}
-use lib.ListN.{length, take, drop, length-drop}
-use lib.Seq.{drop-drop, length-take-le}
+use mathlib.Core.Logic.{◌⊎◌, inl, inr}
+use mathlib.Core.List.{List, [], ◌∷◌, ◌++◌}
+use lib.ListN.{length, take, drop, length-append, length-drop}
+use lib.Seq.{drop-drop, length-take-le, take_at, drop_at}
 use borrow.Author.Tests.{lt-ltb, le-ltb, not-false}
+use denote.Ref.{Bor}
 use Rattle.wire.specs.Bytes.{byte_at}
 use Rattle.wire.specs.Choice.{pick, both, either}
 use Rattle.wire.proofs.Choice.{both_right, never}
@@ -15,12 +17,12 @@ use Rattle.rules.specs.declared.Address.{Address}
 use Rattle.wire.specs.Part.{part}
 use Rattle.notification_rules.specs.Cut.{Cut, cut_of, stop, more, is_nil, any, odd, from_offset}
 use Rattle.notification_rules.specs.Loop.{loop_size, descriptor_size, content, Pair, pairs_of, descriptors_of, descriptor_items}
-use Rattle.notification_rules.specs.Target.{located, is_location, is_cover, cover_of, covers, hit, entry_size, entry_bytes, first_pair}
+use Rattle.notification_rules.specs.Target.{is_cover, cover_of, covers, hit, entry_size, entry_bytes, first_pair}
 use Rattle.wire.proofs.Lists.{from}
 use Rattle.notification_rules.proofs.Cuts.{nil_true, nil_false, nil_length}
 use Rattle.notification_rules.proofs.Items.{loop_two, loops_stop, loops_more, stops, goes_on, descriptors_stop, descriptors_more, covered_any}
 use Rattle.notification.proofs.Fits.{drop_take}
-use Rattle.notification.specs.Readers.{loop_at, Turns, pairs_from, pair_at, answers_by, pair_or_end}
+use Rattle.notification.specs.Readers.{loop_at, Has, Holds, Turns, pairs_from, pair_at, answers_by, pair_or_end, StopsAt}
 
 pub cut_here : (s : List ℕ) (o : ℕ) → o ≤ length s → o + loop_size (drop o s) ≤ length s
     → cut_of loop_size (drop o s) ≡ more (loop_at s o) (cut_of loop_size (drop (o + loop_size (drop o s)) s))
@@ -122,41 +124,88 @@ unfolding pair_or_end first_pair pick pairs_from from_offset pairs_of
 ends s o test h g =
     rw (le-ltb o (length s) g, cut_none s o h (omega (arith, loop_two (drop o s))))
 
--- ---- whether a pair answers, with what the code has read of it: its two loops, and whether the second has a location
-module _ (device : Address) (general : Bool) (s : List ℕ) (o n : ℕ) (e : n ≡ o + loop_size (drop o s))
-    (x y : List ℕ) (ex : x ≡ content (loop_at s o)) (ey : y ≡ content (loop_at s n)) (b : Bool)
-    (eb : b ≡ either (is_location (located (from_offset (n + 2) (descriptor_items y)))) general) where
-  answers_by_is : (k : Bool) → is_cover (cover_of device (part o (loop_at s o))) ≡ k → answers_by device general (pair_at s o) ≡ both k b
+-- one of two tests holds, or none does
+pub one_holds : (t u : Bool) → (t ≡ true) ⊎ ((t ≡ false) × (u ≡ true)) → either t u ≡ true
+unfolding either
+one_holds t u (inl e) = rw e
+one_holds t u (inr e) = rw (e.0, e.1)
+
+pub none_holds : (t u : Bool) → t ≡ false → u ≡ false → either t u ≡ false
+unfolding either
+none_holds t u e f = rw (e, f)
+
+-- ---- the pair at o, before the end, with what the code has read of it: what its two loops hold, and whether the second has a location
+pub record Seen (s : Bor (List ℕ)) (o : ℕ) (x y : Bor (List ℕ)) (b : Bool) : Type 0 where
+  turns : Turns s.now o
+  before : o < length s.now
+  target : Holds s o x
+  operational : Holds s (o + 2 + length x.now) y
+  located : Has y.now b
+
+pub seen : {s x y : Bor (List ℕ)} {o : ℕ} {b : Bool} → Turns s.now o → o < length s.now → Holds s o x → Holds s (o + 2 + length x.now) y
+    → Has y.now b → Seen s o x y b
+seen t l h k e = record { turns = t; before = l; target = h; operational = k; located = e }
+
+module _ (device : Address) (general : Bool) (s : Bor (List ℕ)) (o : ℕ) (x y : Bor (List ℕ)) (b : Bool) (q : Seen s o x y b) where
+  abbrev test : Pair → Bool
+  test = answers_by device general
+
+  abbrev here : ℕ
+  here = o + 2 + length x.now
+
+  abbrev after : ℕ
+  after = o + 4 + length x.now + length y.now
+
+  second : here ≡ o + loop_size (drop o s.now)
+  second = omega (arith, q.target.size)
+
+  next : after ≡ here + loop_size (drop here s.now)
+  next = omega (arith, q.operational.size)
+
+  answers_by_is : (k : Bool) → is_cover (cover_of device (part o (loop_at s.now o))) ≡ k → test (pair_at s.now o) ≡ both k (either b general)
   unfolding answers_by pair_at descriptors_of
-  answers_by_is k h = rw (h, ← e, ← ey, ← eb)
+  answers_by_is k h = rw (h, ← second, ← q.operational.is.bytes, ← q.located (here + 2))
 
-  cover_empty : length x ≡ 0 → is_cover (cover_of device (part o (loop_at s o))) ≡ true
+  cover_empty : length x.now ≡ 0 → is_cover (cover_of device (part o (loop_at s.now o))) ≡ true
   unfolding cover_of pick is_cover
-  cover_empty z = rw (← ex, nil_true x z)
+  cover_empty z = rw (← q.target.is.bytes, nil_true x.now z)
 
-  cover_some : (length x ≡ 0 → ⊥) → is_cover (cover_of device (part o (loop_at s o))) ≡ any (covers device) (descriptor_items x)
+  cover_some : (length x.now ≡ 0 → ⊥)
+      → is_cover (cover_of device (part o (loop_at s.now o))) ≡ any (covers device) (descriptor_items x.now)
   unfolding cover_of pick descriptors_of
-  cover_some z = rw (← ex, nil_false x (pos x z), covered_any device (o + 2) (descriptor_items x))
+  cover_some z = rw (← q.target.is.bytes, nil_false x.now (pos x.now z), covered_any device (o + 2) (descriptor_items x.now))
     where
       pos : (w : List ℕ) → (length w ≡ 0 → ⊥) → 0 < length w
       pos [] z = absurd (z refl)
       pos (v ∷ w) z = omega arith
 
-  pub answers_empty : length x ≡ 0 → b ≡ true → answers_by device general (pair_at s o) ≡ true
+  pub answers_empty : length x.now ≡ 0 → either b general ≡ true → test (pair_at s.now o) ≡ true
   unfolding both
   answers_empty z h = answers_by_is true (cover_empty z) ∙ h
 
-  pub answers_some : (length x ≡ 0 → ⊥) → b ≡ true → (k : Bool) → any (covers device) (descriptor_items x) ≡ k
-      → answers_by device general (pair_at s o) ≡ k
+  pub answers_some : (length x.now ≡ 0 → ⊥) → either b general ≡ true → (k : Bool) → any (covers device) (descriptor_items x.now) ≡ k
+      → test (pair_at s.now o) ≡ k
   answers_some z h k a = answers_by_is k (cover_some z ∙ a) ∙ rw h (both_right k)
 
-  pub answers_nowhere : b ≡ false → answers_by device general (pair_at s o) ≡ false
+  pub answers_nowhere : either b general ≡ false → test (pair_at s.now o) ≡ false
   unfolding both
-  answers_nowhere h = answers_by_is _ refl ∙ rw h (and_false (is_cover (cover_of device (part o (loop_at s o)))))
+  answers_nowhere h = answers_by_is _ refl ∙ rw h (and_false (is_cover (cover_of device (part o (loop_at s.now o)))))
     where
       and_false : (k : Bool) → both k false ≡ false
       and_false true = refl
       and_false false = refl
+
+  -- with what the search has passed from `from` on, it stops here, or goes on
+  module _ (from : ℕ) (passed : first_pair test (pairs_from s.now o) ≡ first_pair test (pairs_from s.now from)) where
+    pub stops_here : test (pair_at s.now o) ≡ true → StopsAt device general s.now from o
+    stops_here z = record { first = hits s.now o q.turns q.before here second after next test z ∙ passed; turns = q.turns }
+
+    pub passes : test (pair_at s.now o) ≡ false → Turns s.now after × (first_pair test (pairs_from s.now after) ≡ first_pair test (pairs_from s.now from))
+    passes z = (next_turns s.now o q.turns q.before here second after next, skips s.now o q.turns q.before here second after next test z ∙ passed)
+
+  -- and all of it is there
+  pub pair_whole : o + 4 + length x.now + length y.now ≤ length s.now
+  pair_whole = omega (arith, second_whole s.now o q.turns q.before here second, next)
 
 -- ---- descriptors of a target loop
 module _ (device : Address) (s : List ℕ) (n : ℕ) (e : n ≡ descriptor_size s) where
@@ -178,25 +227,30 @@ module _ (device : Address) (s : List ℕ) (n : ℕ) (e : n ≡ descriptor_size 
   unfolding pick
   descriptor_miss h z = rw (from, one_descriptor h, z)
 
--- ---- entries of a descriptor
-module _ (device : Address) (d a : List ℕ) (n : ℕ) (g : 0 < n) where
-  pub no_entry : length a < n → any (hit device d) (cut_of (λ _. n) a).items ≡ false
+-- ---- entries of a descriptor, of which x stands at the front of what is left, a, and b after it
+module _ (device : Address) (d : List ℕ) (n : ℕ) (g : 0 < n) where
+  abbrev pub struck : List ℕ → Bool
+  struck a = any (hit device d) (cut_of (λ _. n) a).items
+
+  pub no_entry : (a : List ℕ) → length a < n → struck a ≡ false
   unfolding any
-  no_entry h = ap (λ (c : Cut). any (hit device d) c.items) (stops (λ _. n) (λ _. g) a h)
+  no_entry a h = ap (λ (c : Cut). any (hit device d) c.items) (stops (λ _. n) (λ _. g) a h)
 
-  one_entry : n ≤ length a → any (hit device d) (cut_of (λ _. n) a).items
-      ≡ pick (hit device d (take n a)) true (any (hit device d) (cut_of (λ _. n) (drop n a)).items)
-  unfolding any
-  one_entry h = ap (λ (c : Cut). any (hit device d) c.items) (goes_on (λ _. n) (λ _. g) a h)
+  module _ (a x b : List ℕ) (e : a ≡ x ++ b) (l : length x ≡ n) where
+    one_entry : struck a ≡ pick (hit device d x) true (struck b)
+    unfolding any
+    one_entry =
+        let h : n ≤ length a = omega (arith, ap length e ∙ length-append x b) in
+        ap (λ (c : Cut). any (hit device d) c.items) (goes_on (λ _. n) (λ _. g) a h)
+        ∙ rw (e, take_at x b n l, drop_at x b n l)
 
-  pub entry_hit : n ≤ length a → hit device d (take n a) ≡ true → any (hit device d) (cut_of (λ _. n) a).items ≡ true
-  unfolding pick
-  entry_hit h z = rw (one_entry h, z)
+    pub entry_hit : hit device d x ≡ true → struck a ≡ true
+    unfolding pick
+    entry_hit z = rw (one_entry, z)
 
-  pub entry_miss : n ≤ length a → hit device d (take n a) ≡ false
-      → any (hit device d) (cut_of (λ _. n) (take (length a - n) (drop n a))).items ≡ any (hit device d) (cut_of (λ _. n) a).items
-  unfolding pick
-  entry_miss h z = rw (from, one_entry h, z)
+    pub entry_miss : hit device d x ≡ false → struck b ≡ struck a
+    unfolding pick
+    entry_miss z = rw (one_entry, z)
 
 -- what the entries say is what the descriptor says
 pub covers_by : (device : Address) (d a : List ℕ) (t n : ℕ) (k : Bool) → t ≡ byte_at d 0 → n ≡ entry_size t → a ≡ entry_bytes d
@@ -204,8 +258,3 @@ pub covers_by : (device : Address) (d a : List ℕ) (t n : ℕ) (k : Bool) → t
 unfolding covers
 covers_by device d a t n k et en ea h =
     ap₂ (λ (m : ℕ) (z : List ℕ). any (hit device d) (cut_of (λ _. m) z).items) (sym (en ∙ ap entry_size et)) (sym ea) ∙ h
-
--- a pair that begins before the end ends before it
-pub pair_whole : (s : List ℕ) (o t p : ℕ) → Turns s o → o < length s → 2 + t ≡ loop_size (drop o s) → 2 + p ≡ loop_size (drop (o + 2 + t) s)
-    → o + 4 + t + p ≤ length s
-pair_whole s o t p k l et ep = omega (arith, second_whole s o k l (o + 2 + t) (omega arith))

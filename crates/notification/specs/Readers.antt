@@ -1,12 +1,13 @@
 -- What the readers of parts of a section give, each by the definitions of notification_rules.
-use Rattle.std.specs.Prelude.{ℕ, ◌+◌, ◌≤◌, ◌≡◌, Bool, true, false, not, List, [], ◌∷◌, length, take, drop, ltb}
-use Rattle.std.proofs.Math.Option.{Option, none, some}
+use Rattle.std.specs.Prelude.{ℕ, ◌+◌, ◌≤◌, ◌≡◌, Bool, true, false, not, List, length, take, drop, ltb, Option, Some, None, Result, Ok, Err}
+use Rattle.std.proofs.Math.Option.{Option as Maybe, none, some}
 use Rattle.std.specs.Borrow.{Bor}
 use Rattle.wire.specs.Choice.{pick, both, either}
 use Rattle.wire.specs.Part.{Part, part, Is}
 use Rattle.rules.specs.declared.Address.{Address}
-use Rattle.notification_rules.specs.declared.Finding.{Finding}
-use Rattle.notification_rules.specs.declared.Finding.TheVariants.{Found, Nobody, Refused}
+use Rattle.rules.specs.declared.Refusal.{Refusal}
+use Rattle.rules.specs.Told.{number}
+use Rattle.notification_rules.specs.Answers.{Finding, Found, Nobody, Refused}
 use Rattle.notification_rules.specs.Cut.{Cut, cut_of, is_nil, every, odd, from_offset}
 use Rattle.rules.specs.Section.{checked}
 use Rattle.notification_rules.specs.Loop.{loop_size, descriptor_size, platform_offset, content, filled, Pair, pairs_of, descriptor_items, descriptors_of}
@@ -15,9 +16,7 @@ use Rattle.notification_rules.specs.Finding.{known, finding_of}
 use Rattle.notification.specs.declared.loops.Fit.{Fit}
 use Rattle.notification.specs.declared.loops.Fit.TheVariants.{Exact, OtherLength, Misfit}
 use Rattle.notification.specs.declared.location.Choice.{Choice}
-use Rattle.notification.specs.declared.location.Choice.TheVariants.{Own, Platform, Neither}
-use Rattle.notification.specs.declared.Sought.{Sought}
-use Rattle.notification.specs.declared.Sought.TheVariants.{Refusal, NoPair, PairAt}
+use Rattle.notification.specs.declared.location.Choice.TheVariants.{Own, Platform}
 
 -- ---- how loops and descriptors fill bytes
 -- misfit where they do not fill them exactly, else another length where a known descriptor has one
@@ -61,18 +60,17 @@ pub record Holds (s : Bor (List ℕ)) (o : ℕ) (r : Bor (List ℕ)) : Type 0 wh
   pub size : 2 + length r.now ≡ loop_size (drop o s.now)
 
 -- ---- the first 0x13 of a loop
--- the descriptor at the front, or nowhere where nothing stands
-unfoldable pub front : ℕ → List ℕ → Location
-front o [] = nowhere
-front o (x ∷ b) = somewhere (part o (take (descriptor_size (x ∷ b)) (x ∷ b)))
-
--- r is what the loop s holds from its first 0x13 on, or nothing, wherever the loop stands
-pub record Reaches (s r : List ℕ) : Type 0 where
+-- b is what the loop s holds from its first 0x13 on, wherever the loop stands
+pub record From (s b : List ℕ) : Type 0 where
   pub passed : ℕ
   pub inside : passed ≤ length s
-  pub bytes : r ≡ drop passed s
-  pub first : (o : ℕ) → located (from_offset o (descriptor_items s)) ≡ front (passed + o) r
-  pub whole : (length r ≡ 0 → ⊥) → descriptor_size r ≤ length r
+  pub bytes : b ≡ drop passed s
+  pub first : (o : ℕ) → located (from_offset o (descriptor_items s)) ≡ somewhere (part (passed + o) (take (descriptor_size b) b))
+
+-- or there is none
+abbrev pub Reaches : List ℕ → Option (Bor (List ℕ)) → Type 0
+Reaches s (Some r) = From s r.now
+Reaches s None = (o : ℕ) → located (from_offset o (descriptor_items s)) ≡ nowhere
 
 -- whether there is one, wherever the loop stands
 abbrev pub Has : List ℕ → Bool → Type 0
@@ -80,36 +78,41 @@ Has s r = (o : ℕ) → r ≡ is_location (located (from_offset o (descriptor_it
 
 -- ---- the choice of a location
 -- the first loop's goes first; the nine bytes stand after tag and length
-unfoldable pub choose : Location → Location → Choice
-choose (somewhere d) l = Own (d.offset + 2)
-choose nowhere (somewhere d) = Platform (d.offset + 2)
-choose nowhere nowhere = Neither
+unfoldable pub choose : Location → Location → Option Choice
+choose (somewhere d) l = Some (Own (d.offset + 2))
+choose nowhere (somewhere d) = Some (Platform (d.offset + 2))
+choose nowhere nowhere = None
 
 -- of what two loops hold, counted from its first byte
-unfoldable pub choice_of : List ℕ → List ℕ → Choice
+unfoldable pub choice_of : List ℕ → List ℕ → Option Choice
 choice_of s t = choose (located (from_offset 0 (descriptor_items s))) (located (from_offset 0 (descriptor_items t)))
 
 -- what it tells where the one begins at o and the other at p
-abbrev pub told : ℕ → ℕ → Choice → Finding
-told o p (Own k) = Found (o + k)
-told o p (Platform k) = Found (p + k)
-told o p Neither = Nobody
+abbrev pub told : ℕ → ℕ → Option Choice → Finding
+told o p (Some (Own k)) = Found (o + k)
+told o p (Some (Platform k)) = Found (p + k)
+told o p None = Nobody
 
 -- nine bytes stand there
-abbrev pub Inside : List ℕ → List ℕ → Choice → Type 0
-Inside s t (Own k) = k + 9 ≤ length s
-Inside s t (Platform k) = k + 9 ≤ length t
-Inside s t Neither = ⊥
+abbrev pub Inside : List ℕ → List ℕ → Option Choice → Type 0
+Inside s t (Some (Own k)) = k + 9 ≤ length s
+Inside s t (Some (Platform k)) = k + 9 ≤ length t
+Inside s t None = ⊥
+
+-- r is this part of what begins at `start`
+abbrev pub Gives : ℕ × ℕ → Part → Option (Bor (List ℕ)) → Type 0
+Gives start p (Some r) = Is start p r
+Gives start p None = ⊥
 
 -- r is the nine bytes of s from k on, where they stand there
-abbrev pub Nine : Bor (List ℕ) → ℕ → Bor (List ℕ) → Type 0
-Nine s k r = k + 9 ≤ length s.now → Is s.ref_ptr (part k (take 9 (drop k s.now))) r
+abbrev pub Nine : Bor (List ℕ) → ℕ → Option (Bor (List ℕ)) → Type 0
+Nine s k r = k + 9 ≤ length s.now → Gives s.ref_ptr (part k (take 9 (drop k s.now))) r
 
 -- r is the nine bytes that were chosen
-abbrev pub Picked : Bor (List ℕ) → Bor (List ℕ) → Choice → Bor (List ℕ) → Type 0
-Picked s t (Own k) r = Nine s k r
-Picked s t (Platform k) r = Nine t k r
-Picked s t Neither r = r.now ≡ []
+abbrev pub Picked : Bor (List ℕ) → Bor (List ℕ) → Option Choice → Option (Bor (List ℕ)) → Type 0
+Picked s t (Some (Own k)) r = Nine s k r
+Picked s t (Some (Platform k)) r = Nine t k r
+Picked s t None r = r ≡ None
 
 -- ---- pairs from an offset on
 -- whole pairs stand from here on to the end
@@ -134,7 +137,7 @@ answers_by device general x =
     both (is_cover (cover_of device x.target)) (either (is_location (located (descriptors_of x.operational))) general)
 
 -- the pair at an offset, or none at the end
-unfoldable pub pair_or_end : List ℕ → ℕ → Option Pair
+unfoldable pub pair_or_end : List ℕ → ℕ → Maybe Pair
 pair_or_end s o = pick (ltb o (length s)) (some (pair_at s o)) none
 
 -- the search from o on stops at r, the first pair that answers, or at the end
@@ -150,7 +153,7 @@ abbrev pub pairs_offset : List ℕ → ℕ
 pairs_offset h = platform_offset + loop_size (drop platform_offset h)
 
 -- the choice of the pair whose operational loop stands at o
-abbrev pub choice_at : List ℕ → ℕ → Choice
+abbrev pub choice_at : List ℕ → ℕ → Option Choice
 choice_at h o = choice_of (content (loop_at h o)) (content (loop_at h platform_offset))
 
 -- what it tells, in the section
@@ -169,7 +172,7 @@ pub record Answers (device : Address) (s h : List ℕ) (o : ℕ) : Type 0 where
   pub locates : Locates h o
   pub told : finding_of device s ≡ told_at h o
 
-abbrev pub Tells : Address → List ℕ → Sought → Type 0
-Tells device s (Refusal n) = finding_of device s ≡ Refused n
-Tells device s NoPair = finding_of device s ≡ Nobody
-Tells device s (PairAt o) = Answers device s (checked s) o
+abbrev pub Tells : Address → List ℕ → Result (Option ℕ) Refusal → Type 0
+Tells device s (Err r) = finding_of device s ≡ Refused (number r)
+Tells device s (Ok None) = finding_of device s ≡ Nobody
+Tells device s (Ok (Some o)) = Answers device s (checked s) o

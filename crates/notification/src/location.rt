@@ -10,63 +10,60 @@ use wire::byte_at;
 pub enum Choice {
     Own(usize),
     Platform(usize),
-    Neither,
 }
 
-// A loop from its first 0x13 on, or nothing.
-fn from_location<'a>(s: &'a [u8]) -> &'a [u8]
-    ensures { Reaches s.now result.now }
+// A loop from its first 0x13 on.
+#[tactic(auto, using(crate::proofs::Locations::reaches_end, crate::proofs::Locations::reaches_here, crate::proofs::Locations::reaches_more, notification_rules::proofs::Items::descriptor_two, wire::proofs::Lists::from))]
+fn from_location<'a>(s: &'a [u8]) -> Option<&'a [u8]>
+    ensures { Reaches s.now result }
 {
     let size = descriptor_size(s);
     if s.len() < size {
-        return &s[s.len()..];
+        return None;
     }
     if byte_at(s, 0) == 0x13 {
-        return s;
+        return Some(s);
     }
     from_location(&s[size..])
 }
 
 // A loop has a 0x13.
+#[tactic(auto, using(crate::proofs::Locations::has_is))]
 pub fn has_location(s: &[u8]) -> bool
     ensures { Has s.now result }
 {
-    from_location(s).len() != 0
+    from_location(s).is_some()
 }
 
-// The choice of a pair's location. The nine bytes stand after tag and length.
-pub fn choose(operational: &[u8], platform: &[u8]) -> Choice
+// The choice of a pair's location, if it has one. The nine bytes stand after tag and length.
+#[tactic(auto, using(crate::proofs::Locations::rest_inside, crate::proofs::Locations::chosen_own, crate::proofs::Locations::chosen_platform, crate::proofs::Locations::chosen_none))]
+pub fn choose(operational: &[u8], platform: &[u8]) -> Option<Choice>
     ensures { result ≡ choice_of operational.now platform.now }
 {
-    let own = from_location(operational);
-    if own.len() != 0 {
-        return Choice::Own(operational.len() - own.len() + 2);
+    if let Some(own) = from_location(operational) {
+        return Some(Choice::Own(operational.len() - own.len() + 2));
     }
-    let general = from_location(platform);
-    if general.len() != 0 {
-        return Choice::Platform(platform.len() - general.len() + 2);
-    }
-    Choice::Neither
+    let general = from_location(platform)?;
+    Some(Choice::Platform(platform.len() - general.len() + 2))
 }
 
-// Nine bytes from an offset on; nothing where there are not as many.
-fn nine<'a>(s: &'a [u8], offset: usize) -> &'a [u8]
+// Nine bytes from an offset on, if there are as many.
+fn nine<'a>(s: &'a [u8], offset: usize) -> Option<&'a [u8]>
     ensures { Nine s.entry offset result }
 {
     let rest = after(s, offset);
     if rest.len() < 9 {
-        return &s[..0];
+        return None;
     }
-    &rest[..9]
+    Some(&rest[..9])
 }
 
 // The nine bytes of the one loop or the other.
-pub fn pick<'a>(operational: &'a [u8], platform: &'a [u8]) -> &'a [u8]
+pub fn pick<'a>(operational: &'a [u8], platform: &'a [u8]) -> Option<&'a [u8]>
     ensures { Picked operational.entry platform.entry (choice_of operational.now platform.now) result }
 {
-    match choose(operational, platform) {
+    match choose(operational, platform)? {
         Choice::Own(offset) => nine(operational, offset),
         Choice::Platform(offset) => nine(platform, offset),
-        Choice::Neither => &operational[..0],
     }
 }

@@ -8,8 +8,8 @@ ghost use Rattle.notification.specs.Readers.{worse, length_fit, descriptor_fit, 
 use wire::byte_at;
 
 // How loops and descriptors fill bytes: exactly; with a known descriptor of another length (33); not exactly (32). Each is worse than the
-// one before it, and the worst that was met is handed on to the end.
-#[derive(Clone, Copy)]
+// one before it, and the worst that was met is handed on to the end. No Result, which would stop at 33: 32 is decided over the whole section.
+#[derive(Clone, Copy, PartialEq, Eq, PartialOrd, Ord)]
 pub enum Fit {
     Exact,
     OtherLength,
@@ -17,6 +17,7 @@ pub enum Fit {
 }
 
 // The bytes that the loop at the front takes.
+#[tactic(auto, unfolding(notification_rules::specs::Loop::loop_size))]
 pub fn loop_size(s: &[u8]) -> usize
     ensures { Reads (loop_size s.now) 4098 result }
 {
@@ -24,6 +25,7 @@ pub fn loop_size(s: &[u8]) -> usize
 }
 
 // The bytes that the descriptor at the front takes.
+#[tactic(auto, unfolding(notification_rules::specs::Loop::descriptor_size))]
 pub fn descriptor_size(s: &[u8]) -> usize
     ensures { Reads (descriptor_size s.now) 258 result }
 {
@@ -31,36 +33,31 @@ pub fn descriptor_size(s: &[u8]) -> usize
 }
 
 // A descriptor with this tag may have n bytes.
+#[tactic(auto, unfolding(notification_rules::specs::Target::right_length, wire::specs::Choice::pick, wire::specs::Choice::both))]
 fn right_length(tag: u8, n: u8) -> bool
     ensures { result ≡ right_length tag n }
 {
-    if tag == 0x07 {
-        return wire::both(6 <= n, n % 6 == 0);
+    match tag {
+        0x07 => 6 <= n && n % 6 == 0,
+        0x0e => n % 12 == 0,
+        0x13 => n == 9,
+        _ => true,
     }
-    if tag == 0x0e {
-        return n % 12 == 0;
-    }
-    if tag == 0x13 {
-        return n == 9;
-    }
-    true
 }
 
 // `fit` after one more descriptor, which has this tag and n bytes.
+#[tactic(auto, unfolding(crate::specs::Readers::worse, crate::specs::Readers::length_fit, crate::specs::Readers::fit_of, wire::specs::Choice::pick))]
 fn with_descriptor(fit: Fit, tag: u8, n: u8) -> Fit
     ensures { result ≡ worse fit (length_fit tag n) }
 {
     if right_length(tag, n) {
         return fit;
     }
-    match fit {
-        Fit::Exact => Fit::OtherLength,
-        Fit::OtherLength => Fit::OtherLength,
-        Fit::Misfit => Fit::Misfit,
-    }
+    fit.max(Fit::OtherLength)
 }
 
-// `fit` after the descriptors up to the end of a loop.
+// `fit` after the descriptors up to the end of a loop. That it calls itself on the rest is promised (docs/PROMISES.md).
+#[tactic(auto, using(crate::proofs::Fits::fit_end, crate::proofs::Fits::fit_stop, crate::proofs::Fits::fit_more, notification_rules::proofs::Items::descriptor_two, wire::proofs::Lists::from))]
 fn descriptor_loop(s: &[u8], fit: Fit) -> Fit
     ensures { result ≡ worse fit (descriptor_fit s.now) }
 {
@@ -75,8 +72,9 @@ fn descriptor_loop(s: &[u8], fit: Fit) -> Fit
     descriptor_loop(&s[size..], next)
 }
 
-// `fit` after a target loop and what follows it, up to the end.
+// `fit` after a target loop and what follows it, up to the end. That these two call each other by turns is promised (docs/PROMISES.md).
 #[cycle(operational_loop_target_loop)]
+#[tactic(auto, using(crate::proofs::Fits::loops_end, crate::proofs::Fits::loops_short, crate::proofs::Fits::loops_on, notification_rules::proofs::Items::loop_two, wire::proofs::Lists::from))]
 fn target_loop(s: &[u8], fit: Fit) -> Fit
     ensures { result ≡ worse fit (loop_fit false s.now) }
 {
@@ -92,6 +90,7 @@ fn target_loop(s: &[u8], fit: Fit) -> Fit
 
 // `fit` after an operational loop, which has to be there, and what follows it; the platform loop is read in the same way.
 #[cycle(operational_loop_target_loop)]
+#[tactic(auto, using(crate::proofs::Fits::loops_missing, crate::proofs::Fits::loops_on, notification_rules::proofs::Items::loop_two, wire::proofs::Lists::from))]
 pub fn operational_loop(s: &[u8], fit: Fit) -> Fit
     ensures { result ≡ worse fit (loop_fit true s.now) }
 {
@@ -106,8 +105,5 @@ pub fn operational_loop(s: &[u8], fit: Fit) -> Fit
 pub fn after<'a>(s: &'a [u8], k: usize) -> &'a [u8]
     ensures { After s.entry k result }
 {
-    if s.len() < k {
-        return &s[..0];
-    }
-    &s[k..]
+    &s[k.min(s.len())..]
 }

@@ -1,21 +1,15 @@
 -- Each line tests what its row means, so the first line that applies has the number of the first row that does.
-use Prim.Native.Nat.{ℕ, ◌+◌, ◌*◌, ◌-◌, ◌/◌, ◌%◌, ◌≤◌}
-use native.Mathlib.Omega.{arith}
-use mathlib.Core.Path.{◌≡◌, refl, sym, ap, ◌∙◌}
-use mathlib.Core.Logic.{◌↔◌, ◌≢◌, inl, inr}
-use mathlib.Core.Bool.{Bool, true, false, not}
-use mathlib.Core.List.{List, [], ◌∷◌, ◌++◌, map, Memᴰ}
+use mathlib.Core.List.{Memᴰ}
 use mathlib.Core.Option.{Option, none, some}
-use lib.ListN.{length}
-use lib.Bits.{bit_xor}
-use lib.Dec.{eqb, leb}
-use borrow.Author.Tests.{eq-eqb, eqb-true, le-leb, leb-true, not-true}
+use Rattle.std.proofs.lemmas.Bool.{not-true}
+use Rattle.std.proofs.Common.{ℕ, ◌+◌, ◌*◌, ◌-◌, ◌/◌, ◌%◌, ◌≤◌, arith, ◌≡◌, refl, sym, ap, ◌∙◌, ◌↔◌, ◌≢◌, inl, inr, Bool, true, false, not, List, [], ◌∷◌, ◌++◌, map, length, bit_xor, eqb, leb, eq-eqb, eqb-true, le-leb, leb-true, Decides}
+use Rattle.std.proofs.lemmas.Bool.Decides.{Decides-eqb, Decides-not}
 use Rattle.wire.specs.Bytes.{bit, byte_at, Bytes}
 use Rattle.wire.specs.Choice.{both, either, first, first_of, Line, pick, without}
 use Rattle.wire.specs.Meaning.{◌means◌}
 use Rattle.wire.specs.Part.{Part}
 use Rattle.wire.proofs.Choice.{both_true, first_of_past, never, not_first}
-use Rattle.wire.proofs.Meaning.{gives_last, gives_row, or_else_is, or_else, Tells, tells_eq, tells_not}
+use Rattle.wire.proofs.Meaning.{gives_last, gives_row, or_else_is, or_else}
 use Rattle.rules.specs.declared.Address.{Address}
 use Rattle.rules.specs.Address.{address_bytes}
 use Rattle.rules.specs.Check.{checksum_form, shared_refusal, shared_lines, form_lines, order_lines, wrong_syntax}
@@ -35,7 +29,7 @@ use Rattle.notification_rules.proofs.Rewritten.{filled_exactly, taken_is_written
 use Rattle.notification_rules.proofs.Taken.{descriptors_cut, loop_content, loops_in, loops_all, loops_back}
 
 -- ---- 33, of one descriptor
-masked_tells : (n : ℕ) → Tells (both (leb 6 n) (eqb (n % 6) 0)) ((k : ℕ) × (n ≡ 6 + 6 * k))
+masked_tells : (n : ℕ) → Decides (both (leb 6 n) (eqb (n % 6) 0)) ((k : ℕ) × (n ≡ 6 + 6 * k))
 unfolding both
 masked_tells n = (
   λ p.
@@ -49,7 +43,7 @@ masked_tells n = (
       rw (le-leb _ _ l, e),
 )
 
-ranges_tells : (n : ℕ) → Tells (eqb (n % 12) 0) ((k : ℕ) × (n ≡ 12 * k))
+ranges_tells : (n : ℕ) → Decides (eqb (n % 12) 0) ((k : ℕ) × (n ≡ 12 * k))
 ranges_tells n = (
   λ p. let e : n % 12 ≡ 0 = eqb-true _ _ p in (n / 12, omega arith),
   λ w. let e : n % 12 ≡ 0 = omega (arith, w.1) in eq-eqb _ _ e,
@@ -76,20 +70,20 @@ module _ (t n : ℕ) where
   of_none a b c (inr (inl w)) = b w.0
   of_none a b c (inr (inr w)) = c w.0
 
-  other_tells : Tells (not (right_length t n)) (OtherLength t n)
+  other_tells : Decides (not (right_length t n)) (OtherLength t n)
   unfolding right_length pick
-  other_tells = go (eqb t 0x07) (eqb t 0x0E) (eqb t 0x13) (tells_eq t 0x07) (tells_eq t 0x0E) (tells_eq t 0x13)
+  other_tells = go (eqb t 0x07) (eqb t 0x0E) (eqb t 0x13) (Decides-eqb t 0x07) (Decides-eqb t 0x0E) (Decides-eqb t 0x13)
     where
-      go : (a b c : Bool) → Tells a (t ≡ 0x07) → Tells b (t ≡ 0x0E) → Tells c (t ≡ 0x13)
-          → Tells (not (pick a (both (leb 6 n) (eqb (n % 6) 0)) (pick b (eqb (n % 12) 0) (pick c (eqb n 9) true)))) (OtherLength t n)
+      go : (a b c : Bool) → Decides a (t ≡ 0x07) → Decides b (t ≡ 0x0E) → Decides c (t ≡ 0x13)
+          → Decides (not (pick a (both (leb 6 n) (eqb (n % 6) 0)) (pick b (eqb (n % 12) 0) (pick c (eqb n 9) true)))) (OtherLength t n)
       go true b c ha hb hc =
-          let h = tells_not _ (masked_tells n) in
+          let h = Decides-not _ (masked_tells n) in
           (λ p. inl (ha.0 refl, h.0 p), λ w. h.1 (of_07 (ha.0 refl) w))
       go false true c ha hb hc =
-          let h = tells_not _ (ranges_tells n) in
+          let h = Decides-not _ (ranges_tells n) in
           (λ p. inr (inl (hb.0 refl, h.0 p)), λ w. h.1 (of_0_e (hb.0 refl) w))
       go false false true ha hb hc =
-          let h = tells_not _ (tells_eq n 9) in
+          let h = Decides-not _ (Decides-eqb n 9) in
           (λ p. inr (inr (hc.0 refl, h.0 p)), λ w. h.1 (of_13 (hc.0 refl) w))
       go false false false ha hb hc =
           (λ p. absurd (never p), λ w. absurd (of_none (λ e. never (ha.1 e)) (λ e. never (hb.1 e)) (λ e. never (hc.1 e)) w))
@@ -132,7 +126,7 @@ module _ (s : List ℕ) where
       ap (λ (c : Cut). not (every (λ l. known (content l)) c.items)) e
       ∙ ap not (every_map (λ l. known (content l)) loop_written (all f))
 
-  holds_tells : Filled s → Tells (other_length s) (HoldsOther s)
+  holds_tells : Filled s → Decides (other_length s) (HoldsOther s)
   holds_tells f = (
     λ p.
         let l = not_every (λ l. known (content (loop_written l))) (all f) (not-true _ (sym (other_is f) ∙ p)) in
@@ -157,7 +151,7 @@ module _ (s : List ℕ) where
       go w false e = refl
 
 -- ---- 15, 30, 31
-either_left : {p : Type 0} (t : Bool) → Tells t p → Tells (either t false) p
+either_left : {p : Type 0} (t : Bool) → Decides t p → Decides (either t false) p
 unfolding either
 either_left true h = h
 either_left false h = h
@@ -165,15 +159,15 @@ either_left false h = h
 -- private_indicator is not looked at, so that 24 never applies
 syntax : (s : List ℕ) → Place15 notification_form s (15 means (bit 7 (byte_at s 1) ≢ 1) ∷ [])
 unfolding checksum_form wrong_syntax section_syntax_indicator both first
-syntax s = record { gives = λ g. gives_row _ 15 (either_left _ (tells_not _ (tells_eq (bit 7 (byte_at s 1)) 1))) (g refl) }
+syntax s = record { gives = λ g. gives_row _ 15 (either_left _ (Decides-not _ (Decides-eqb (bit 7 (byte_at s 1)) 1))) (g refl) }
 
-action : (s : List ℕ) → Tells (other_action s) (byte_at s 3 ≢ 0x01)
+action : (s : List ℕ) → Decides (other_action s) (byte_at s 3 ≢ 0x01)
 unfolding other_action action_type
-action s = tells_not _ (tells_eq (byte_at s 3) 0x01)
+action s = Decides-not _ (Decides-eqb (byte_at s 3) 0x01)
 
-hash : (s : List ℕ) → Tells (wrong_hash s) (byte_at s 4 ≢ bit_xor (bit_xor (byte_at s 8) (byte_at s 9)) (byte_at s 10))
+hash : (s : List ℕ) → Decides (wrong_hash s) (byte_at s 4 ≢ bit_xor (bit_xor (byte_at s 8) (byte_at s 9)) (byte_at s 10))
 unfolding wrong_hash platform_id_hash
-hash s = tells_not _ (tells_eq (byte_at s 4) (bit_xor (bit_xor (byte_at s 8) (byte_at s 9)) (byte_at s 10)))
+hash s = Decides-not _ (Decides-eqb (byte_at s 4) (bit_xor (bit_xor (byte_at s 8) (byte_at s 9)) (byte_at s 10)))
 
 -- ---- 3 and 4
 unfoldable is_found : Finding → Bool
@@ -228,7 +222,7 @@ module _ (device : Address) (s : List ℕ) (b : Bytes s) where
       ∙ or_else_is lines (finding_number sought) refl
       ∙ ap (or_else lines) (searched_number device (loops_of s))
 
-  finds_tells : Bytes (address_bytes device) → refusal s ≡ 0 → Tells (is_found sought) (Finds device s)
+  finds_tells : Bytes (address_bytes device) → refusal s ≡ 0 → Decides (is_found sought) (Finds device s)
   unfolding finding_of pick
   finds_tells d r =
       let finding : finding_of device s ≡ sought = rw (eq-eqb (refusal s) 0 r) in
@@ -245,10 +239,10 @@ module _ (device : Address) (s : List ℕ) (b : Bytes s) where
       first_of_past (shared_lines notification_form s) _ (shared_numbered notification_form s) h
       ∙ sym (not_first 30 _ e30 (not_first 31 _ e31 (not_first 32 _ e32 (not_first 33 _ e33 refl))))
 
-  unfilled_tells : Tells (misfit s) (¬ Filled s)
+  unfilled_tells : Decides (misfit s) (¬ Filled s)
   unfilled_tells = go (misfit s) (filled_exactly s b)
     where
-      go : (t : Bool) → (t ≡ false) ↔ Filled s → Tells t (¬ Filled s)
+      go : (t : Bool) → (t ≡ false) ↔ Filled s → Decides t (¬ Filled s)
       go true h = (λ _ f. never (sym (h.1 f)), λ _. refl)
       go false h = (λ e. absurd (never e), λ n. absurd (n (h.0 refl)))
 

@@ -3,25 +3,17 @@ use Prim.Native.Nat.{ℕ, zero, suc, ◌+◌, ◌*◌, ◌^◌, ◌<◌}
 use native.Mathlib.Omega.{arith}
 use mathlib.Core.Path.{◌≡◌, refl, sym, ap, ap₂, ◌∙◌}
 use mathlib.Core.Bool.{Bool, true, false, not}
-use mathlib.Core.Logic.{◌≢◌}
 use mathlib.Core.List.{List}
 use lib.Arith.{digits_lt}
 use lib.Dec.{eqb, leb, ltb}
-use borrow.Author.Tests.{eq-eqb, eqb-true, eqb-false, leb-true, leb-false, le-leb, lt-leb, ltb-true, ltb-false, ne_eqb}
+use borrow.Author.Tests.{eqb-true, eqb-false, leb-true, leb-false, le-leb, lt-leb, ltb-true, ltb-false}
 use Rattle.wire.specs.Bytes.{byte_at, Bytes, number_at}
 use Rattle.wire.specs.Choice.{pick, both}
 use Rattle.wire.proofs.Bytes.{number_at_lt}
-use Rattle.wire.proofs.Choice.{both_true, not_pick, yes_pick}
+use Rattle.wire.proofs.Choice.{both_true}
 use Rattle.rules.specs.declared.Address.{Address}
 use Rattle.rules.specs.Address.{address_at, address_bytes}
 use Rattle.notification_rules.specs.Range.{at_most, in_range, RangeMeans, unequal}
-
--- ---- the code's steps: bytes that differ decide, those that are equal leave it to the rest
-pub differs : {x y : ℕ} (rest : Bool) → x ≢ y → ltb x y ≡ pick (unequal x y) (ltb x y) rest
-differs {x} {y} rest h = yes_pick _ rest (ap not (ne_eqb x y h)) refl
-
-pub equals : {x y : ℕ} {m rest : Bool} → x ≡ y → m ≡ rest → m ≡ pick (unequal x y) (ltb x y) rest
-equals {x} {y} e h = not_pick _ _ (ap not (eq-eqb x y e)) h
 
 -- ---- numbers
 same_front : (w u v : ℕ) → leb u v ≡ leb (w + u) (w + v)

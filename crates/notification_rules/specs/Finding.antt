@@ -1,15 +1,14 @@
 -- What a device finds in an INT section: document 01, 'The INT section'.
-use Rattle.std.specs.Prelude.{ℕ, ◌+◌, ◌≡◌, Bool, false, not, List, [], ◌∷◌, ◌++◌, take, drop, eqb}
+use Rattle.std.specs.Prelude.{ℕ, ◌+◌, Bool, false, not, List, [], ◌∷◌, ◌++◌, take, drop, eqb}
 use Rattle.std.proofs.Math.Option.{Option, none, some}
 use Rattle.std.specs.Int.Bits.{bit_xor}
-use Rattle.std.specs.Borrow.{Bor}
 use Rattle.wire.specs.Bytes.{byte_at}
 use Rattle.wire.specs.Choice.{pick, both, Line, line, first_of}
 use Rattle.rules.specs.declared.Address.{Address}
 use Rattle.rules.specs.declared.Form.{Form}
 use Rattle.rules.specs.Check.{shared_lines}
 use Rattle.notification_rules.specs.Answers.{Finding, Found, Nobody, Refused}
-use Rattle.wire.specs.Part.{Part, part, Is}
+use Rattle.wire.specs.Part.{Part, part}
 use Rattle.notification_rules.specs.Cut.{Cut, is_nil, every, odd}
 use Rattle.notification_rules.specs.Loop.{action_type, platform_id_hash, loop_cut, loops_of, content, descriptor_items, filled, tag, body_length, Pair, pairs_of}
 use Rattle.notification_rules.specs.Target.{right_length, location_of, Location, nowhere, somewhere, answers, first_pair}
@@ -88,8 +87,3 @@ abbrev pub part_of : List ℕ → Finding → Part
 part_of s (Found p) = part p (take 9 (drop p s))
 part_of s Nobody = part 0 []
 part_of s (Refused n) = part 0 []
-
--- what the reader gives back: the number, and which bytes of the section
-pub record Answered (device : Address) (s : Bor (List ℕ)) (answer : ℕ) (r : Bor (List ℕ)) : Type 0 where
-  pub number : answer ≡ finding_number (finding_of device s.now)
-  pub part : Is s.ref_ptr (part_of s.now (finding_of device s.now)) r

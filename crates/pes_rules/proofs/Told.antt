@@ -7,7 +7,7 @@ use lib.Dec.{eqb}
 use Rattle.std.proofs.Common.{Option, Some, None, is_some, unwrap_or, Result, Ok, Err}
 use Rattle.pes_rules.specs.Packet.{read_of}
 use Rattle.pes_rules.specs.Reading.{Reading}
-use Rattle.pes_rules.specs.Told.{told}
+use Rattle.pes_rules.specs.Told.{told, ToldNames}
 use Rattle.pes_rules.proofs.Answer.{data_within, Within}
 use Rattle.pes_rules.specs.declared.Packet.{Packet}
 use Rattle.pes_rules.specs.declared.Refusal.{Refusal}
@@ -36,7 +36,7 @@ found_again (Err Flags) = refl
 found_again (Err HeaderLength) = refl
 found_again (Ok p) = rw (value_is p.extension, value_is p.rate)
 
-pub told_injective : (x y : Result Packet Refusal) → told x ≡ told y → x ≡ y
+pub told_injective : ToldNames
 told_injective x y e = sym (found_again x) ∙ ap result_of e ∙ found_again y
 
 -- ---- where the data of a packet is

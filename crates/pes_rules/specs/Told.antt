@@ -1,5 +1,5 @@
 -- How what the code gives is read in document 01's numbers.
-use Rattle.std.specs.Prelude.{ℕ, false, is_some, Result, Ok, Err}
+use Rattle.std.specs.Prelude.{ℕ, ◌≡◌, false, is_some, Result, Ok, Err}
 use Rattle.std.specs.Option.{unwrap_or}
 use Rattle.pes_rules.specs.Reading.{Reading}
 use Rattle.pes_rules.specs.declared.Packet.{Packet}
@@ -30,3 +30,7 @@ told (Ok p) =
 abbrev pub told_refusal : {T : Type 0} → Result T Refusal → ℕ
 told_refusal (Err r) = number r
 told_refusal (Ok x) = 0
+
+-- what is told names the answer: two of which the same is told are equal. A theorem, shown in proofs/Told.antt
+abbrev pub ToldNames : Type 0
+ToldNames = (x y : Result Packet Refusal) → told x ≡ told y → x ≡ y

@@ -1,20 +1,13 @@
 -- Each outcome that the tables reach has what goes with its number: a refusal, what is passed by, and what is kept.
-use Prim.Native.Nat.{ℕ, ◌+◌, ◌≤◌, ◌<◌}
-use native.Mathlib.Decide.{ℕ_discrete}
-use native.Mathlib.Omega.{arith}
-use mathlib.Core.Path.{◌≡◌, refl, ap, ◌∙◌}
-use mathlib.Core.Logic.{◌≢◌}
-use mathlib.Core.List.{List, append_assoc, flatten}
-use mathlib.Core.Bool.{Bool, true, false}
-use lib.ListN.{length}
-use lib.Seq.{take_all, take-length}
-use lib.Dec.{eqb}
-use borrow.Author.Tests.{eq-eqb, eqb-false, eqb-true, leb-true, ne_eqb}
+use Rattle.std.proofs.Math.Decide.{ℕ_discrete}
+use mathlib.Core.List.{flatten}
+use Rattle.std.proofs.Math.Seq.{take-length}
+use Rattle.std.proofs.lemmas.Bool.{eqb-false}
+use Rattle.std.proofs.Common.{ℕ, ◌+◌, ◌≤◌, ◌<◌, arith, ◌≡◌, refl, ap, ◌∙◌, ◌≢◌, List, append_assoc, Bool, true, false, length, take_all, eqb, eq-eqb, eqb-true, leb-true, ne_eqb, Option, Some, None}
 use Rattle.wire.specs.Bytes.{bit, byte_at}
 use Rattle.wire.specs.Choice.{both, first_of, Line, pick, without}
 use Rattle.wire.proofs.Choice.{first_of_without}
 use Rattle.rules.specs.Answers.{Delivered, PassedBy, Stored}
-use Rattle.std.specs.Prelude.{Option, Some, None}
 use Rattle.rules.specs.declared.Settings.{Settings}
 use Rattle.rules.specs.declared.State.{State}
 use Rattle.rules.specs.declared.State.TheVariants.{Idle, Open}

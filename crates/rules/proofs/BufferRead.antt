@@ -1,15 +1,8 @@
 -- Of the buffer only the room and, at number L, the end of the unit are asked; all else of an answer is by the section and the state.
-use Prim.Native.Nat.{ℕ}
-use native.Mathlib.Omega.{arith}
-use mathlib.Core.Path.{◌≡◌, refl, ap}
-use mathlib.Core.List.{List, ◌++◌}
-use mathlib.Core.Bool.{Bool, true, false}
-use lib.ListN.{length-append, length-take, take}
-use lib.Dec.{eqb}
-use borrow.Author.Tests.{eqb-false, eqb-true}
+use Rattle.std.proofs.lemmas.Bool.{eqb-false}
+use Rattle.std.proofs.Common.{ℕ, arith, ◌≡◌, refl, ap, List, ◌++◌, Bool, true, false, length-append, length-take, take, eqb, eqb-true, Option, Some, None}
 use Rattle.wire.specs.Bytes.{bit, byte_at}
 use Rattle.wire.specs.Choice.{first_of, Line, pick}
-use Rattle.std.specs.Prelude.{Option, Some, None}
 use Rattle.rules.specs.declared.Key.{Key}
 use Rattle.rules.specs.declared.State.{State}
 use Rattle.rules.specs.declared.State.TheVariants.{Idle, Open}
@@ -19,7 +12,6 @@ use Rattle.rules.specs.Section.{last_section_number, llc_snap_flag, payload, sec
 use Rattle.rules.specs.Step.{continues, Fill, fill_from, finish, From, joined_with, keep, lay, Nowhere, onward, Outcome, refuse_first, room, step_of, up_to}
 use Rattle.rules.specs.UnitEnd.{unit_end}
 use Rattle.rules.proofs.Meaning.{filled_open, filled_zero}
-use Rattle.rules.proofs.Track.{nowhere}
 
 pick_step : (t : Bool) (o p q r : Outcome) → o.step ≡ p.step → q.step ≡ r.step → (pick t o q).step ≡ (pick t p r).step
 unfolding pick
@@ -43,10 +35,10 @@ filled_before_is σ s f p = from_zero (eqb (byte_at s 6) 0) refl p
     goes_on : (e g : ℕ) (κ : Key) (t : Bool) → eqb (byte_at s 6) 0 ≡ false → pick t (From g) Nowhere ≡ From f
         → filled_before (Open e g κ) (byte_at s 6) ≡ f
     goes_on e g κ true q p = let is : g ≡ f = cc in rw (← is) (filled_open e g κ (byte_at s 6) (eqb-false _ _ q))
-    goes_on e g κ false q p = absurd (nowhere p)
+    goes_on e g κ false q p = cc
 
     further : (σ : State) → eqb (byte_at s 6) 0 ≡ false → onward σ s ≡ From f → filled_before σ (byte_at s 6) ≡ f
-    further Idle q p = absurd (nowhere p)
+    further Idle q p = cc
     further (Open e g κ) q p = goes_on e g κ (continues e κ s) q p
 
     from_zero : (t : Bool) → eqb (byte_at s 6) 0 ≡ t → pick t (From 0) (onward σ s) ≡ From f → filled_before σ (byte_at s 6) ≡ f

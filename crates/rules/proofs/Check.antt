@@ -1,8 +1,5 @@
 -- Every line of the check has a number other than 0, as computing shows; so a table's parts can be decided one after the other.
-use Prim.Native.Nat.{ℕ}
-use mathlib.Core.Path.{◌≡◌, refl}
-use mathlib.Core.List.{List}
-use mathlib.Core.Bool.{true}
+use Rattle.std.proofs.Common.{ℕ, ◌≡◌, refl, List, true}
 use Rattle.wire.specs.Choice.{both, without}
 use Rattle.rules.specs.declared.Form.{Form}
 use Rattle.rules.specs.Check.{form_lines, order_lines, shared_lines}

@@ -1,11 +1,6 @@
 -- A byte that the range reaches is tested, and any other passes.
-use Prim.Native.Nat.{ℕ, zero, suc, ◌-◌, ◌≤◌, ◌<◌}
-use native.Mathlib.Decide.{dec_le}
-use native.Mathlib.Omega.{arith}
-use mathlib.Core.Path.{◌≡◌, refl, ap}
-use mathlib.Core.Logic.{◌↔◌}
-use mathlib.Core.Bool.{true}
-use borrow.Author.Tests.{eq-eqb, eqb-true, le-ltb, lt-ltb}
+use Rattle.std.proofs.Math.Decide.{dec_le}
+use Rattle.std.proofs.Common.{ℕ, zero, suc, ◌-◌, ◌≤◌, ◌<◌, arith, ◌≡◌, refl, ap, ◌↔◌, true, eq-eqb, eqb-true, le-ltb, lt-ltb}
 use Rattle.wire.specs.Bytes.{byte_at}
 use Rattle.wire.specs.Choice.{both, either}
 use Rattle.wire.proofs.Choice.{both_true}

@@ -1,12 +1,7 @@
 -- CRC_32 adds over xor because each bit that goes in only shifts the register and adds the polynomial or not.
-use mathlib.Core.Path.{◌≡◌, refl, sym, ap, ap₂, ◌∙◌}
-use mathlib.Core.List.{List, [], ◌∷◌, ◌++◌}
-use Prim.Native.Nat.{ℕ, zero, suc, ◌*◌, ◌+◌, ◌/◌, ◌%◌, ◌^◌, ◌<◌}
-use native.Mathlib.Nat.{mod-lt, zero-lt-suc, le_of_suc-le-suc, not-suc-le-zero, add-zero, div-lt_iff_lt-mul}
-use native.Mathlib.Omega.{arith}
-use lib.Arith.{bin_ind}
-use lib.Bits.{bit_xor, differ, xor_step, xor_comm, xor_lt, xor_shr, xor_mod, xor_block}
-use lib.Pow.{pow_pos}
+use Rattle.std.specs.Int.Bits.{xor_assoc}
+use Rattle.std.proofs.lemmas.Nat.{xor_comm, xor_lt, xor_shr, xor_mod, xor_block}
+use Rattle.std.proofs.Common.{◌≡◌, refl, sym, ap, ap₂, ◌∙◌, List, [], ◌∷◌, ◌++◌, ℕ, zero, suc, ◌*◌, ◌/◌, ◌%◌, ◌^◌, ◌<◌, mod-lt, le_of_suc-le-suc, not-suc-le-zero, add-zero, div-lt_iff_lt-mul, arith, bit_xor, pow_pos, lit<}
 use Rattle.rules.specs.Crc.{polynomial, start, crc_bit, crc_bits, crc_byte, crc_from, crc32}
 
 -- ---- published values
@@ -26,32 +21,6 @@ pub bit_cases : (P : ℕ → Type 0) → P 0 → P 1 → (x : ℕ) → x < 2 →
 bit_cases P p q zero h = p
 bit_cases P p q (suc zero) h = q
 bit_cases P p q (suc (suc x)) h = absurd (not-suc-le-zero (le_of_suc-le-suc (le_of_suc-le-suc h)))
-
-two_pos : 0 < 2
-two_pos = zero-lt-suc 1
-
-differ_assoc : (x y z : ℕ) → x < 2 → y < 2 → z < 2 → differ (differ x y) z ≡ differ x (differ y z)
-differ_assoc x y z hx hy hz =
-    bit_cases (λ x. differ (differ x y) z ≡ differ x (differ y z)) refl
-    (bit_cases (λ y. differ (differ 1 y) z ≡ differ 1 (differ y z)) refl
-    (bit_cases (λ z. differ (differ 1 1) z ≡ differ 1 (differ 1 z)) refl refl z hz) y hy) x hx
-
-xor_odd : (a b : ℕ) → bit_xor a b % 2 ≡ differ (a % 2) (b % 2)
-xor_odd a b =
-    xor_mod a b 1
-    ∙ bit_cases (λ x. bit_xor x (b % 2) ≡ differ x (b % 2)) refl
-    (bit_cases (λ y. bit_xor 1 y ≡ differ 1 y) refl refl (b % 2) (mod-lt b two_pos)) (a % 2) (mod-lt a two_pos)
-
-pub xor_assoc : (a b c : ℕ) → bit_xor (bit_xor a b) c ≡ bit_xor a (bit_xor b c)
-xor_assoc =
-    bin_ind (λ n. (b c : ℕ) → bit_xor (bit_xor n b) c ≡ bit_xor n (bit_xor b c)) (λ b c. refl)
-    (λ n ih b c.
-    xor_step (bit_xor n b) c
-    ∙ ap₂ (λ x y. bit_xor x (c / 2) * 2 + differ y (c % 2)) (xor_shr n b 1) (xor_odd n b)
-    ∙ ap₂ (λ x y. x * 2 + y) (ih (b / 2) (c / 2))
-    (differ_assoc (n % 2) (b % 2) (c % 2) (mod-lt n two_pos) (mod-lt b two_pos) (mod-lt c two_pos))
-    ∙ sym (xor_step n (bit_xor b c)
-    ∙ ap₂ (λ x y. bit_xor (n / 2) x * 2 + differ (n % 2) y) (xor_shr b c 1) (xor_odd b c)))
 
 pub xor_four : (a b c d : ℕ) → bit_xor (bit_xor a b) (bit_xor c d) ≡ bit_xor (bit_xor a c) (bit_xor b d)
 xor_four a b c d =
@@ -93,7 +62,7 @@ crc_bit_add a b d e ha hb hd he =
 
 -- ---- any number of bits
 bit_lt : (k x : ℕ) → x / 2 ^ k % 2 < 2
-bit_lt k x = mod-lt (x / 2 ^ k) two_pos
+bit_lt k x = mod-lt (x / 2 ^ k) (lit< tt)
 
 pub crc_bits_lt : (k c x : ℕ) → c < 2 ^ 32 → crc_bits k c x < 2 ^ 32
 unfolding crc_bits

@@ -1,20 +1,14 @@
 -- The sender's sections are a whole run, offered one by one; the row theory says what is due at each of them.
-use Prim.Native.Nat.{ℕ, zero, suc, ◌+◌, ◌-◌, ◌≤◌, ◌<◌}
-use native.Mathlib.Omega.{arith}
-use native.Mathlib.Numerals.{add-one}
-use mathlib.Core.Path.{◌≡◌, refl, ap, ap₂, sym, ◌∙◌}
-use mathlib.Core.Bool.{Bool, false}
-use mathlib.Core.List.{List, [], ◌∷◌, ◌++◌, flatten, map}
-use lib.ListN.{length, take, length-take}
+use mathlib.Core.List.{flatten}
+use Rattle.std.proofs.lemmas.List.{map_push}
+use Rattle.std.proofs.Common.{ℕ, zero, suc, ◌+◌, ◌-◌, ◌≤◌, ◌<◌, arith, add-one, ◌≡◌, refl, ap, ap₂, sym, ◌∙◌, Bool, false, List, [], ◌∷◌, ◌++◌, map, length, take, length-take, Some}
 use Rattle.wire.specs.Bytes.{number_at}
 use Rattle.wire.specs.Choice.{both}
 use Rattle.rules.specs.declared.Settings.{Settings}
-use Rattle.std.specs.Prelude.{Some}
 use Rattle.rules.specs.declared.Key.{Key}
 use Rattle.rules.specs.Answers.{Delivered, Stored, Sent}
 use Rattle.rules.specs.Recording.{offers}
 use Rattle.rules.specs.Demand2.{answer_at, Arrives, RoundTrip}
-use Rattle.rules.specs.Demand3 as InWords
 use Rattle.rules.specs.Sound.{table3, Values}
 use Rattle.rules.specs.Row.{after, Event, fresh, Held, next, section}
 use Rattle.rules.proofs.Compared.{same_self}
@@ -28,10 +22,10 @@ use Rattle.rules.specs.Step.{key_of, Outcome, ours, room, step_of, up_to}
 use Rattle.rules.specs.UnitEnd.{unit_end}
 use Rattle.rules.proofs.Recording.{Framed, offers_sections}
 use Rattle.rules.proofs.Due.{Due, refused, finished, stored, due, due_holds, Holds, started}
-use Rattle.rules.proofs.Lists.{map_more}
 use Rattle.rules.proofs.Runs.{EndsIn, only}
 use Rattle.rules.proofs.Sections.{sections_are, sections_sent}
 use Rattle.rules.proofs.Send.{Accepted, count_some, SentAll, sent_all, sent_all_bytes, joined_to, piece_small, section_size, section_written, sections_at, sections_joined, sections_length, sections_take}
+use Rattle.rules.specs.Demand3 as InWords
 
 -- ---- each section is receivable
 after_more : (c : Settings) (h : Held) (r : List Event) (e : Event) → after c h (r ++ (e ∷ [])) ≡ next c (after c h r) e
@@ -134,7 +128,7 @@ module _ (c : Settings) (llc_snap : Bool) (n : ℕ) (u out : List ℕ) (a : Acce
     holds_to zero h = started c b
     holds_to (suc k) h =
         let i : Holds c b (row k) (held k) = holds_to k (omega arith) in
-        rw (map_more section (to k) (at k), after_more c (fresh b) (row k) (section (at k)))
+        rw (map_push section (to k) (at k), after_more c (fresh b) (row k) (section (at k)))
         (due_holds c b i.size (made_tested c (held k).state (at k) (held k).buffer) (due_at k (omega arith) i))
 
     -- the outcome at section k
@@ -145,7 +139,7 @@ module _ (c : Settings) (llc_snap : Bool) (n : ℕ) (u out : List ℕ) (a : Acce
 
     run_next : (k : ℕ) → k < count → EndsIn c b (row k ++ (section (at k) ∷ [])) key (to (suc k))
     unfolding sections_to
-    run_next k h = rw (← map_more section (to k) (at k)) (run_to (suc k) h)
+    run_next k h = rw (← map_push section (to k) (at k)) (run_to (suc k) h)
 
     some_to : (k : ℕ) → 0 < length (to (suc k))
     some_to k = omega (arith, sections_length c llc_snap n u (suc k))
@@ -187,7 +181,7 @@ module _ (c : Settings) (llc_snap : Bool) (n : ℕ) (u out : List ℕ) (a : Acce
     unit_at : (k : ℕ) → k + 1 ≡ count → take (length u) (held (suc k)).buffer ≡ u
     unfolding sections_to next
     unit_at k h =
-        rw (map_more section (to k) (at k), after_more c (fresh b) (row k) (section (at k)))
+        rw (map_push section (to k) (at k), after_more c (fresh b) (row k) (section (at k)))
         ((outcome_at k (omega arith)).unit h)
 
     arrives : Arrives c b (to count) u

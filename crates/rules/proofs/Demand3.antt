@@ -1,16 +1,12 @@
 -- Each of the receiver's tests holds exactly where its words do, so the row theorem says demand 3 in these words.
-use Prim.Native.Nat.{ℕ, suc, zero, ◌<◌}
-use native.Mathlib.Omega.{arith}
-use mathlib.Core.Path.{◌≡◌, refl, ap, sym, ◌∙◌}
-use mathlib.Core.Logic.{◌↔◌, ◌⊎◌, inl, inr}
-use mathlib.Core.Bool.{Bool, true, false}
-use mathlib.Core.List.{List, [], ◌∷◌, ◌++◌, map}
-use lib.ListN.{drop, get_or, length, length-append, length-map, get_or-map, take}
-use lib.Seq.{get_or-append_seam, length-take-le, split_at}
-use borrow.Author.Tests.{eqb-true, not-true}
+use Rattle.std.proofs.Math.ListN.{get_or-map}
+use Rattle.std.proofs.Math.Seq.{get_or-append_seam, split_at}
+use Rattle.std.proofs.lemmas.Bool.{false_from_ne_true, false≢true, not-true}
+use Rattle.std.proofs.lemmas.List.{length-map}
+use Rattle.std.proofs.Common.{ℕ, suc, zero, ◌<◌, arith, ◌≡◌, refl, ap, sym, ◌∙◌, ◌↔◌, ◌⊎◌, inl, inr, Bool, true, false, List, [], ◌∷◌, ◌++◌, map, drop, get_or, length, length-append, take, length-take-le, eqb-true}
 use Rattle.wire.specs.Bytes.{Bytes}
 use Rattle.wire.specs.Choice.{both, first, first_of, pick}
-use Rattle.wire.proofs.Choice.{both_true, never}
+use Rattle.wire.proofs.Choice.{both_true}
 use Rattle.rules.specs.declared.Settings.{Settings}
 use Rattle.rules.specs.declared.Key.{Key}
 use Rattle.rules.specs.Check.{check}
@@ -22,17 +18,16 @@ use Rattle.rules.specs.Demand3.{Demand3Holds, Elsewhere, Ends, HandedRight, join
 use Rattle.rules.specs.Meaning.{Good, Own}
 use Rattle.rules.proofs.Compared.{compares_last}
 use Rattle.rules.proofs.Exactly.{read_back}
-use Rattle.rules.proofs.Finish.{no_datagram}
 use Rattle.rules.proofs.Good.{good_is}
 use Rattle.rules.proofs.Read.{read, read_is, read_limits}
 use Rattle.rules.proofs.Written.{carried, clear_back, flagged_back, last_back, number_back, address_back, written_sound}
 use Rattle.rules.proofs.Row.{row_theorem}
-use Rattle.rules.proofs.Runs as runs
-use Rattle.rules.proofs.Tested as tested
 use Rattle.rules.proofs.Tested.{elsewhere, strike}
 use Rattle.rules.proofs.Track.{room_bounds}
 use Rattle.rules.proofs.OwnLength.{own_length}
 use Rattle.rules.proofs.UnitEnd.{unit_ends}
+use Rattle.rules.proofs.Runs as runs
+use Rattle.rules.proofs.Tested as tested
 
 -- ---- the tests, in words
 own_read : (c : Settings) (s : List ℕ) → (ours c s ≡ true) ↔ Own c (read s).address
@@ -47,15 +42,8 @@ unfoldable EventBytes : Event → Type 0
 EventBytes (section s) = Bytes s
 EventBytes gap = Unit
 
-not_so : (t : Bool) → (t ≡ true → ⊥) → t ≡ false
-not_so true h = absurd (h refl)
-not_so false h = refl
-
 same_section : {s t : List ℕ} → section s ≡ section t → s ≡ t
 same_section p = cc
-
-no_section : {s : List ℕ} → gap ≡ section s → ⊥
-no_section p = let z : ◌≡◌ {A = ℕ} 0 1 = cc in omega arith
 
 tells : (c : Settings) (e : Event) → EventBytes e → (elsewhere c e ≡ true) ↔ Elsewhere c e
 unfolding EventBytes elsewhere both
@@ -67,13 +55,13 @@ tells c (section s) b = (
         values = read s;
         limits = read_limits s b sound;
         is = ap section (sym (read_is s b sound));
-        other = λ o. never (sym (not-true (ours c s) parts.1) ∙ (own_read c s).1 o);
+        other = λ o. false≢true (sym (not-true (ours c s) parts.1) ∙ (own_read c s).1 o);
       },
   λ w.
-      let foreign : ours c (table3 w.values) ≡ false = not_so _ (λ p. w.other ((own_written c w.values).0 p)) in
+      let foreign : ours c (table3 w.values) ≡ false = false_from_ne_true _ (λ p. w.other ((own_written c w.values).0 p)) in
       rw (same_section w.is, written_sound w.values w.limits, foreign),
 )
-tells c gap b = (λ p. absurd (never p), λ w. absurd (no_section w.is))
+tells c gap b = (λ p. absurd (false≢true p), λ w. let z = w.is in cc)
 
 -- ---- the struck row, in words
 of_front : (e : Event) (r : List Event) → OfBytes (e ∷ r) → EventBytes e × OfBytes r
@@ -88,7 +76,7 @@ struck_more c e r t b h = go (elsewhere c e) refl
     go : (x : Bool) → elsewhere c e ≡ x
         → (Elsewhere c e × Struck c r (pick x t (e ∷ t))) ⊎ ((¬ Elsewhere c e) × ((u : List Event) × (pick x t (e ∷ t) ≡ e ∷ u) × Struck c r u))
     go true p = inl ((tells c e b).0 p, h)
-    go false p = inr (λ w. never (sym p ∙ (tells c e b).1 w), (t, refl, h))
+    go false p = inr (λ w. false≢true (sym p ∙ (tells c e b).1 w), (t, refl, h))
 
 strike_is : (c : Settings) (r : List Event) → OfBytes r → Struck c r (strike c r)
 unfolding Struck strike
@@ -317,7 +305,7 @@ module _ (c : Settings) (b : List ℕ) where
   bad_hands bad h gap = refl
 
   kept : (e : Event) → EventBytes e → ¬ Elsewhere c e → elsewhere c e ≡ false
-  kept e g h = not_so (elsewhere c e) (λ p. h ((tells c e g).0 p))
+  kept e g h = false_from_ne_true (elsewhere c e) (λ p. h ((tells c e g).0 p))
 
   -- ---- the demand
   module _ (r : List Event) (e : Event) (given : OfBytes (r ++ (e ∷ []))) where
@@ -335,7 +323,7 @@ module _ (c : Settings) (b : List ℕ) where
         let words = ready_is row n d ((good_is c).0 good) (of_strike c (r ++ (e ∷ [])) given) in
         (λ p. words.0 (hands.0 p), λ w. hands.1 (words.1 w))
     exactly false bad h n d =
-        (λ p. absurd (no_datagram (sym (bad_hands bad _ e) ∙ p)), λ w. absurd (never (sym bad ∙ (good_is c).1 w.run.good)))
+        (λ p. let z = sym (bad_hands bad _ e) ∙ p in cc, λ w. absurd (false≢true (sym bad ∙ (good_is c).1 w.run.good)))
 
     handed_right : HandedRight c b r e (handed_over c (after c (fresh b) r) e)
     handed_right =

@@ -1,16 +1,9 @@
 -- The tests that lead to an answer say whether the row ends in a run with the section, and whether that run is whole.
-use Prim.Native.Nat.{ℕ, ◌+◌, ◌≤◌, ◌<◌}
-use native.Mathlib.Omega.{arith}
-use mathlib.Core.Path.{◌≡◌, refl, ap, ap₂, sym, ◌∙◌}
-use mathlib.Core.Logic.{◌↔◌}
-use mathlib.Core.Bool.{Bool, true, false}
-use mathlib.Core.List.{List, [], ◌∷◌, ◌++◌}
-use lib.ListN.{length, take}
-use borrow.Author.Tests.{eqb-true, eqb-false, leb-true, leb-false, not-true}
+use Rattle.std.proofs.lemmas.Bool.{false≢true, eqb-false, not-true}
+use Rattle.std.proofs.Common.{ℕ, ◌+◌, ◌≤◌, ◌<◌, arith, ◌≡◌, refl, ap, ap₂, sym, ◌∙◌, ◌↔◌, Bool, true, false, List, [], ◌∷◌, ◌++◌, length, take, eqb-true, leb-true, leb-false, Option}
 use Rattle.wire.specs.Choice.{pick, both, first, first_of}
-use Rattle.wire.proofs.Choice.{both_true, never}
+use Rattle.wire.proofs.Choice.{both_true}
 use Rattle.rules.specs.declared.Settings.{Settings}
-use Rattle.std.specs.Prelude.{Option}
 use Rattle.rules.specs.declared.Key.{Key}
 use Rattle.rules.specs.declared.State.{State}
 use Rattle.rules.specs.declared.State.TheVariants.{Open}
@@ -23,8 +16,8 @@ use Rattle.rules.specs.UnitEnd.{unit_end}
 use Rattle.rules.proofs.Tested.{elsewhere, joined, Receivable, Ready}
 use Rattle.rules.proofs.Sound.{none_own, own_none}
 use Rattle.rules.proofs.Runs.{EndsIn, ends_size, Next, next, Same, only, whole_ends}
-use Rattle.rules.proofs.Track.{key_flag, key_last, in_order, room_bounds, room_same, laid_length, laid_take, nowhere, Gathered, Track, within, follows, filled_from, grown}
-use Rattle.rules.proofs.Finish.{Carries, up_to_hands, up_to_size, up_to_state, handed, held, no_datagram}
+use Rattle.rules.proofs.Track.{key_flag, key_last, in_order, room_bounds, room_same, laid_length, laid_take, Gathered, Track, within, follows, filled_from, grown}
+use Rattle.rules.proofs.Finish.{Carries, up_to_hands, up_to_size, up_to_state, handed, held}
 use Rattle.rules.proofs.UnitEnd.{end_within_is}
 
 pub pick_case : (P : Outcome → Type 0) (t : Bool) (o u : Outcome) → (t ≡ true → P o) → (t ≡ false → P u) → P (pick t o u)
@@ -102,7 +95,7 @@ module _ (c : Settings) (b : List ℕ) where
       → (handed o ≡ datagram n d) ↔ Ready c b (past ++ (section s ∷ [])) n d
   unfolding handed_by
   due_hands (refused never_ends) n d = (
-    λ p. absurd (no_datagram p),
+    λ p. cc,
     λ w. absurd (never_ends w.run.key w.sections (whole_ends c b w.run w.there) (omega (arith, w.run.whole))),
   )
   due_hands {past} {now} {s} (finished {f = f} {after = after} size g last) n d =
@@ -140,7 +133,7 @@ module _ (c : Settings) (b : List ℕ) where
             }),
       )
   due_hands (stored size g part) n d = (
-    λ p. absurd (no_datagram p),
+    λ p. cc,
     λ w.
         let same = ready_run w g (omega arith) in
         absurd (omega (arith, w.run.whole, ap length same.sections, ap (λ (κ : Key). κ.last) same.key, g.count)),
@@ -175,7 +168,7 @@ module _ (c : Settings) (b : List ℕ) where
 
     lays : Receivable c s → (p : Fill) → fill_from h.state s ≡ p → Here (lay p s h.buffer)
     unfolding lay
-    lays k Nowhere q = refusing (λ κ l. nowhere (fill_is Nowhere q l))
+    lays k Nowhere q = refusing (λ κ l. let z = fill_is Nowhere q l in cc)
     lays k (From f) q =
         pick_case Here _ _ _ (λ t. keeps k f q (leb-true _ _ t))
         (λ t. refusing (λ κ l.
@@ -195,6 +188,6 @@ module _ (c : Settings) (b : List ℕ) where
         let t = own_none c s (eqb-true _ _ free) in
         lays (record { sound = eqb-true _ _ sound; address = address; clear = t.0; within = t.1 }) (fill_from h.state s) refl)
         (λ refused. refusing (λ κ l. let r = l.in_run.receivable in eqb-false _ _ refused (none_own c s r.clear r.within))))
-        (λ foreign. absurd (never (sym kept ∙ struck_is c s (eqb-true _ _ sound) foreign))))
+        (λ foreign. absurd (false≢true (sym kept ∙ struck_is c s (eqb-true _ _ sound) foreign))))
         (λ unsound. refusing (λ κ l. eqb-false _ _ unsound l.in_run.receivable.sound)))
         (λ bad. absurd (eqb-false _ _ bad (settled c h.state good i.good)))

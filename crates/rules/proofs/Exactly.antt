@@ -1,5 +1,5 @@
 -- What is sound is what table 3 writes for the values read, and what table 3 writes is sound and read back as it was written.
-use mathlib.Core.Path.{◌≡◌, ap, sym, ◌∙◌}
+use Rattle.std.proofs.Common.{◌≡◌, ap, sym, ◌∙◌}
 use Rattle.wire.specs.Bytes.{bits, byte_at}
 use Rattle.rules.specs.Check.{check}
 use Rattle.rules.specs.Section.{address, last_section_number, llc_snap_flag, payload, payload_scrambling_control, section_number}

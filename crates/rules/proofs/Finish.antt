@@ -1,25 +1,15 @@
 -- Where a unit is finished no run is left open, and exactly its bytes up to its end are handed over, as `up_to` says case by case.
-use Prim.Native.Nat.{ℕ, ◌≤◌}
-use native.Mathlib.Omega.{arith}
-use mathlib.Core.Path.{◌≡◌, ap, refl, sym, ◌∙◌}
-use mathlib.Core.Logic.{◌↔◌}
-use mathlib.Core.List.{List}
-use lib.ListN.{length, take}
-use lib.Seq.{length-take-le, take-take}
-use Rattle.std.specs.Prelude.{Option, Some, None}
+use Rattle.std.proofs.lemmas.Option.{none-some, same_Some}
+use Rattle.std.proofs.Common.{ℕ, ◌≤◌, arith, ◌≡◌, ap, refl, sym, ◌∙◌, ◌↔◌, List, length, take, length-take-le, take-take, Option, Some, None}
 use Rattle.rules.specs.declared.State.TheVariants.{Idle}
 use Rattle.rules.specs.Step.{Outcome, up_to}
-use Rattle.rules.specs.Row.{Held, Handed, datagram, handed_by, nothing}
-use Rattle.rules.proofs.UnitEnd.{no_end, same_end}
+use Rattle.rules.specs.Row.{Held, Handed, datagram, handed_by}
 
 abbrev pub handed : Outcome → Handed
 handed o = handed_by o.step.answer o.buffer
 
 abbrev pub held : Outcome → Held
 held o = record { state = o.step.state; buffer = o.buffer }
-
-pub no_datagram : {n : ℕ} {d : List ℕ} → nothing ≡ datagram n d → ⊥
-no_datagram p = let z : ◌≡◌ {A = ℕ} 0 1 = cc in omega arith
 
 -- the n bytes d are the first part of p, up to the end e
 pub record Carries (e : Option ℕ) (p : List ℕ) (n : ℕ) (d : List ℕ) : Type 0 where
@@ -51,8 +41,8 @@ up_to_hands (Some m) b after p is fits within n d =
     λ q. let n_is : m ≡ n = cc in let d_is : take m after ≡ d = cc in record { end = m; ends = refl; bytes = cc; size = cc } in
     let from : Carries (Some m) p n d → datagram m (take m after) ≡ datagram n d =
     λ q.
-    let m_is : m ≡ q.end = same_end q.ends in
+    let m_is : m ≡ q.end = same_Some _ _ q.ends in
     let d_is : take m after ≡ d = first ∙ ap (λ (k : ℕ). take k p) m_is ∙ sym q.bytes in
     let n_is : m ≡ n = cc in cc in
     (to, from)
-up_to_hands None b after p is fits within n d = (λ q. absurd (no_datagram q), λ q. absurd (no_end q.ends))
+up_to_hands None b after p is fits within n d = (λ q. cc, λ q. absurd (none-some _ q.ends))

@@ -1,8 +1,5 @@
 -- The test of the settings holds exactly where the settings are good, since it compares both bounds of each.
-use mathlib.Core.Path.{◌≡◌}
-use mathlib.Core.Logic.{◌↔◌}
-use mathlib.Core.Bool.{true}
-use borrow.Author.Tests.{le-leb, leb-true}
+use Rattle.std.proofs.Common.{◌≡◌, ◌↔◌, true, le-leb, leb-true}
 use Rattle.wire.specs.Choice.{both}
 use Rattle.wire.proofs.Choice.{both_true}
 use Rattle.rules.specs.declared.Settings.{Settings}

@@ -1,11 +1,8 @@
 -- A row that arrives hands over nothing at each section but the last, and the unit there: what is handed over is told by the answer.
-use Prim.Native.Nat.{ℕ, zero, suc, ◌+◌, ◌-◌, ◌<◌}
-use native.Mathlib.Decide.{dec_lt}
-use native.Mathlib.Omega.{arith}
-use mathlib.Core.Path.{◌≡◌, refl, ap, sym, ◌∙◌}
-use mathlib.Core.List.{List, [], ◌∷◌, ◌++◌, map}
-use lib.ListN.{get_or, get_or-replicate, length, length-append, length-map, length-replicate, get_or-append, replicate, take}
-use lib.Seq.{ext_get_or, get_or_at}
+use Rattle.std.proofs.Math.Decide.{dec_lt}
+use Rattle.std.proofs.Math.ListN.{get_or-append}
+use Rattle.std.proofs.lemmas.List.{get_or-replicate, length-map, length-replicate, get_or_at}
+use Rattle.std.proofs.Common.{ℕ, zero, suc, ◌+◌, ◌-◌, ◌<◌, arith, ◌≡◌, refl, ap, sym, ◌∙◌, List, [], ◌∷◌, ◌++◌, map, get_or, length, length-append, replicate, take, ext_get_or}
 use Rattle.rules.specs.declared.Settings.{Settings}
 use Rattle.rules.specs.Demand2.{answer_at, Arrives}
 use Rattle.rules.specs.Row.{after, datagram, Event, fresh, gap, Handed, handed_by, handed_over, Held, next, nothing, section}

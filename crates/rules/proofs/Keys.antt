@@ -1,7 +1,6 @@
 -- The test of two keys holds exactly where the keys are equal, since it compares every field.
-use mathlib.Core.Path.{◌≡◌, refl}
-use mathlib.Core.Bool.{Bool, true, false, beq}
-use borrow.Author.Tests.{eqb-true, eq-eqb}
+use Rattle.std.proofs.Math.Bool.{beq}
+use Rattle.std.proofs.Common.{◌≡◌, refl, Bool, true, false, eqb-true, eq-eqb}
 use Rattle.wire.specs.Choice.{both}
 use Rattle.rules.specs.declared.Key.{Key}
 use Rattle.rules.specs.Step.{same_key}

@@ -12,7 +12,6 @@ pub mod Finish
 pub mod Good
 pub mod Handed
 pub mod Keys
-pub mod Lists
 pub mod Made
 pub mod Meaning
 pub mod Offer

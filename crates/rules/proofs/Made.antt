@@ -1,13 +1,7 @@
 -- The receiver makes good states only: what it passes by leaves a state that was tested, and of what it stores each number and the address
 -- were tested.
-use Prim.Native.Nat.{ℕ, ◌+◌, ◌*◌, ◌≤◌}
-use native.Mathlib.Omega.{arith}
-use mathlib.Core.Path.{◌≡◌, refl}
-use mathlib.Core.Bool.{Bool, true, false}
-use mathlib.Core.List.{List}
-use lib.ListN.{length}
-use lib.Dec.{eqb}
-use borrow.Author.Tests.{eqb-false, eqb-true, leb-true, not-false}
+use Rattle.std.proofs.lemmas.Bool.{eqb-false, not-false}
+use Rattle.std.proofs.Common.{ℕ, ◌+◌, ◌*◌, ◌≤◌, arith, ◌≡◌, refl, Bool, true, false, List, length, eqb, eqb-true, leb-true}
 use Rattle.wire.specs.Choice.{first_of, pick}
 use Rattle.wire.proofs.Choice.{both_true, none_first}
 use Rattle.rules.specs.declared.Key.{Key}
@@ -25,7 +19,7 @@ use Rattle.rules.proofs.Finish.{up_to_state}
 use Rattle.rules.proofs.Good.{good_is}
 use Rattle.rules.proofs.Meaning.{state_tells}
 use Rattle.rules.proofs.Sound.{own_none, payload_small, sound}
-use Rattle.rules.proofs.Track.{nowhere, room_bounds}
+use Rattle.rules.proofs.Track.{room_bounds}
 
 -- neither 10 nor 11 applies
 set_up : (c : Settings) (σ : State) → first_of (setup_lines c σ) ≡ 0 → Good c × GoodState c σ
@@ -46,10 +40,10 @@ filled_bytes c σ s f good p = from_zero (eqb (section_number s) 0) refl p
         let is : f ≡ g = cc in
         let next : section_number s ≡ e = eqb-true _ _ (both_true _ _ q).0 in
         omega (arith, good.4)
-    goes_on e g κ false q good p = absurd (nowhere p)
+    goes_on e g κ false q good p = cc
 
     further : (σ : State) → GoodState c σ → onward σ s ≡ From f → f ≤ 4080 * section_number s
-    further Idle good p = absurd (nowhere p)
+    further Idle good p = cc
     further (Open e g κ) good p = goes_on e g κ (continues e κ s) refl good p
 
     from_zero : (u : Bool) → eqb (section_number s) 0 ≡ u → pick u (From 0) (onward σ s) ≡ From f → f ≤ 4080 * section_number s

@@ -1,21 +1,16 @@
 -- Each line of a table tests what its row means, so the first line that applies has the number of the first row that does.
-use Prim.Native.Nat.{ℕ, zero, suc, ◌+◌, ◌*◌, ◌-◌, ◌≤◌, ◌<◌, min}
-use native.Mathlib.Omega.{arith}
-use mathlib.Core.Path.{◌≡◌, refl, sym, ap, subst, ◌∙◌}
-use mathlib.Core.Logic.{◌↔◌, ◌≢◌, ◌⊎◌, inl, inr, ⊎_elim}
-use mathlib.Core.List.{List, [], ◌∷◌, ◌++◌, flatten}
-use mathlib.Core.Bool.{Bool, true, false, not, beq}
-use lib.ListN.{length, take}
-use lib.Dec.{eqb, leb, ltb}
-use borrow.Author.Tests.{eqb-false, eqb-true, leb-false, leb-true, lt-leb, ltb-false, ne_eqb, not-false, not-true}
+use mathlib.Core.List.{flatten}
+use Rattle.std.proofs.Math.Bool.{beq}
+use Rattle.std.proofs.lemmas.Bool.{false≢true, eqb-false, lt-leb, not-false, not-true}
+use Rattle.std.proofs.lemmas.Bool.Decides.{Decides-ltb, Decides-eqb, Decides-not}
+use Rattle.std.proofs.Common.{Decides, ℕ, zero, suc, ◌+◌, ◌*◌, ◌-◌, ◌≤◌, ◌<◌, min, arith, ◌≡◌, refl, sym, ap, subst, ◌∙◌, ◌↔◌, ◌≢◌, ◌⊎◌, inl, inr, ⊎_elim, List, [], ◌∷◌, ◌++◌, Bool, true, false, not, length, take, eqb, leb, ltb, eqb-true, leb-false, leb-true, ltb-false, ne_eqb, Option, Some, None}
 use Rattle.wire.specs.Bytes.{bit, bits, byte_at, number_at}
 use Rattle.wire.specs.Choice.{pick, both, Line, first, first_of, without}
 use Rattle.wire.specs.Meaning.{Row, ◌means◌}
-use Rattle.wire.proofs.Choice.{both_true, never, not_first}
-use Rattle.wire.proofs.Meaning.{Gives, gives_last, gives_row, or_else_is, or_zero, or_else, Tells, tells_both, tells_either, tells_eq, tells_le, tells_lt, tells_not, tells_outside}
+use Rattle.wire.proofs.Choice.{both_true, not_first}
+use Rattle.wire.proofs.Meaning.{Gives, gives_last, gives_row, or_else_is, or_zero, or_else, tells_both, tells_either, tells_le, tells_outside}
 use Rattle.rules.specs.declared.Address.{Address}
 use Rattle.rules.specs.Answers.{PassedBy, Stored}
-use Rattle.std.specs.Prelude.{Option, Some, None}
 use Rattle.rules.specs.declared.Form.{Form}
 use Rattle.rules.specs.declared.Key.{Key}
 use Rattle.rules.specs.declared.Settings.{Settings}
@@ -45,13 +40,13 @@ pub gives_refusal : {syntax : List Row} (f : Form) (s : List ℕ) (m : ℕ) (res
     → (shared_refusal f s ≡ 0 → f.fewest ≤ length s → Gives m rest) → Gives (or_else (shared_lines f s) m) (rows12to14 f.fewest f.table s ++ (syntax ++ (rows16to18 s ++ rest)))
 unfolding or_else shared_refusal shared_lines form_lines order_lines first_of too_short other_table wrong_length wrong_crc not_current out_of_order table_id section_length crc_field current_next_indicator section_number last_section_number
 gives_refusal f s m rest place g =
-    gives_row _ 12 (tells_lt (length s) f.fewest) (λ e12.
-    gives_row _ 13 (tells_not _ (tells_eq (byte_at s 0) f.table)) (λ e13.
-    gives_row _ 14 (tells_either _ _ (tells_lt 4093 (section_length s)) (tells_not _ (tells_eq (section_length s + 3) (length s)))) (λ e14.
+    gives_row _ 12 (Decides-ltb (length s) f.fewest) (λ e12.
+    gives_row _ 13 (Decides-not _ (Decides-eqb (byte_at s 0) f.table)) (λ e13.
+    gives_row _ 14 (tells_either _ _ (Decides-ltb 4093 (section_length s)) (Decides-not _ (Decides-eqb (section_length s + 3) (length s)))) (λ e14.
     place.gives (λ e24 e15.
-    gives_row _ 16 (tells_not _ (tells_eq (number_at 4 s (length s - 4)) (crc32 (take (length s - 4) s)))) (λ e16.
-    gives_row _ 17 (tells_eq (bit 0 (byte_at s 5)) 0) (λ e17.
-    gives_row _ 18 (tells_lt (byte_at s 7) (byte_at s 6)) (λ e18.
+    gives_row _ 16 (Decides-not _ (Decides-eqb (number_at 4 s (length s - 4)) (crc32 (take (length s - 4) s)))) (λ e16.
+    gives_row _ 17 (Decides-eqb (bit 0 (byte_at s 5)) 0) (λ e17.
+    gives_row _ 18 (Decides-ltb (byte_at s 7) (byte_at s 6)) (λ e18.
     g
     (sym
     (not_first 12 _ e12 (not_first 13 _ e13 (not_first 14 _ e14 (not_first 24 _ e24 (not_first 15 _ e15
@@ -77,13 +72,13 @@ indicated s = indicators _ _ (omega arith) (omega arith)
 datagram_syntax : (s : List ℕ) → Place15 datagram_form s (24 means InChecksumForm s ∷ 15 means (bit 7 (byte_at s 1) ≡ bit 6 (byte_at s 1)) ∷ [])
 unfolding checksum_form wrong_syntax section_syntax_indicator private_indicator both
 datagram_syntax s =
-    let checksum = tells_both _ _ (tells_eq (bit 7 (byte_at s 1)) 0) (tells_eq (bit 6 (byte_at s 1)) 1) in
-    let wrong = tells_either _ _ (tells_not _ (tells_eq (bit 7 (byte_at s 1)) 1)) (tells_not _ (tells_eq (bit 6 (byte_at s 1)) 0)) in
+    let checksum = tells_both _ _ (Decides-eqb (bit 7 (byte_at s 1)) 0) (Decides-eqb (bit 6 (byte_at s 1)) 1) in
+    let wrong = tells_either _ _ (Decides-not _ (Decides-eqb (bit 7 (byte_at s 1)) 1)) (Decides-not _ (Decides-eqb (bit 6 (byte_at s 1)) 0)) in
     record {
       gives = λ g.
           gives_row _ 24 checksum (λ e24.
           gives_row _ 15 (
-            λ p. ⊎_elim (λ c. absurd (never (sym e24 ∙ checksum.1 c))) (λ e. e) ((indicated s).0 (wrong.0 p)),
+            λ p. ⊎_elim (λ c. absurd (false≢true (sym e24 ∙ checksum.1 c))) (λ e. e) ((indicated s).0 (wrong.0 p)),
             λ e. wrong.1 ((indicated s).1 (inr e)),
           ) (g e24));
     }
@@ -94,17 +89,17 @@ gives_check : (s : List ℕ) (m : ℕ) (rest : List Row) → (16 ≤ length s �
 unfolding or_else check_lines shared_lines form_lines order_lines address_scrambled address_scrambling_control
 gives_check s m rest g =
     gives_refusal datagram_form s (first (address_scrambled s) 19 m) _ (datagram_syntax s)
-    (λ _ l. gives_row _ 19 (tells_not _ (tells_eq (bits 3 2 (byte_at s 5)) 0)) (λ _. g l))
+    (λ _ l. gives_row _ 19 (Decides-not _ (Decides-eqb (bits 3 2 (byte_at s 5)) 0)) (λ _. g l))
 
 pub check_means : CheckMeans
 unfolding check
 check_means s n = rw (or_zero (check_lines s)) ((gives_check s 0 _ (λ _. gives_last 0 tt)).exactly n)
 
 -- ---- states, addresses
-own_tells : (c : Settings) (a : Address) → Tells (same_address c.range c.address a) (Own c a)
+own_tells : (c : Settings) (a : Address) → Decides (same_address c.range c.address a) (Own c a)
 own_tells c a = compares_last c.range c.address a
 
-pub state_tells : (c : Settings) (σ : State) → Tells (good_state c σ) (GoodState c σ)
+pub state_tells : (c : Settings) (σ : State) → Decides (good_state c σ) (GoodState c σ)
 unfolding good_state GoodState good_run
 state_tells c Idle = (λ _. tt, λ _. refl)
 state_tells c (Open e f κ) =
@@ -113,26 +108,26 @@ state_tells c (Open e f κ) =
     let t = tells_both _ _ (tells_both _ _ numbers bytes) (own_tells c κ.address) in
     (λ p. let w = t.0 p in (w.0.0.0, w.0.0.1.0, w.0.0.1.1, w.0.1.0, w.0.1.1, w.1), λ w. t.1 (((w.0, (w.1, w.2)), (w.3, w.4)), w.5))
 
-ours_tells : (c : Settings) (s : List ℕ) → Tells (ours c s) (Own c (printed s))
+ours_tells : (c : Settings) (s : List ℕ) → Decides (ours c s) (Own c (printed s))
 unfolding ours address
 ours_tells c s = own_tells c (address s)
 
 -- ---- a run that goes on
-flag_tells : (x : ℕ) (t : Bool) → x < 2 → Tells (beq (eqb x 1) t) (x ≡ pick t 1 0)
+flag_tells : (x : ℕ) (t : Bool) → x < 2 → Decides (beq (eqb x 1) t) (x ≡ pick t 1 0)
 unfolding pick
 flag_tells x t h = go (eqb x 1) refl t
   where
-    go : (r : Bool) → eqb x 1 ≡ r → (t : Bool) → Tells (beq r t) (x ≡ pick t 1 0)
+    go : (r : Bool) → eqb x 1 ≡ r → (t : Bool) → Decides (beq r t) (x ≡ pick t 1 0)
     go true e true = (λ _. eqb-true x 1 e, λ _. refl)
-    go true e false = (λ z. absurd (never z), λ q. let one : x ≡ 1 = eqb-true x 1 e in absurd (omega arith))
-    go false e true = (λ z. absurd (never z), λ q. absurd (eqb-false x 1 e q))
+    go true e false = (λ z. absurd (false≢true z), λ q. let one : x ≡ 1 = eqb-true x 1 e in absurd (omega arith))
+    go false e true = (λ z. absurd (false≢true z), λ q. absurd (eqb-false x 1 e q))
     go false e false = let other : x ≡ 1 → ⊥ = eqb-false x 1 e in (λ _. omega arith, λ _. refl)
 
-continues_tells : (e f : ℕ) (κ : Key) (s : List ℕ) → Tells (continues e κ s) (GoesOn (Open e f κ) s)
+continues_tells : (e f : ℕ) (κ : Key) (s : List ℕ) → Decides (continues e κ s) (GoesOn (Open e f κ) s)
 unfolding continues same_key key_of GoesOn address section_number last_section_number llc_snap_flag
 continues_tells e f κ s =
-    let numbers = tells_both _ _ (tells_eq (byte_at s 7) κ.last) (flag_tells (bit 1 (byte_at s 5)) κ.llc_snap (omega arith)) in
-    let t = tells_both _ _ (tells_eq (byte_at s 6) e) (tells_both _ _ (compares_all (address s) κ.address) numbers) in
+    let numbers = tells_both _ _ (Decides-eqb (byte_at s 7) κ.last) (flag_tells (bit 1 (byte_at s 5)) κ.llc_snap (omega arith)) in
+    let t = tells_both _ _ (Decides-eqb (byte_at s 6) e) (tells_both _ _ (compares_all (address s) κ.address) numbers) in
     (λ p. let w = t.0 p in (w.0, w.1.1.0, w.1.1.1, w.1.0), λ w. t.1 (w.0, (w.3, (w.1, w.2))))
 
 -- ---- the number of an outcome
@@ -153,7 +148,7 @@ unfolding pick first
 pick_first true k m = refl
 pick_first false k m = refl
 
-tells_over : (x r : ℕ) → Tells (not (leb x r)) (r < x)
+tells_over : (x r : ℕ) → Decides (not (leb x r)) (r < x)
 tells_over x r = (λ p. leb-false x r (not-true _ p), λ h. ap not (lt-leb x r h))
 
 pub filled_zero : (σ : State) (i : ℕ) → i ≡ 0 → filled_before σ i ≡ 0
@@ -199,10 +194,10 @@ module _ (s b : List ℕ) where
       go true None = refl
       go false e = refl
 
-  unended_tells : (f : ℕ) → Tells (unended f) ((byte_at s 6 ≡ byte_at s 7) × (bit 1 (byte_at s 5) ≡ 0) × NoDatagram (take f b ++ stored s))
+  unended_tells : (f : ℕ) → Decides (unended f) ((byte_at s 6 ≡ byte_at s 7) × (bit 1 (byte_at s 5) ≡ 0) × NoDatagram (take f b ++ stored s))
   unfolding joined_with llc_snap_flag
   unended_tells f =
-      let t = tells_both _ _ (tells_eq (byte_at s 6) (byte_at s 7)) (unit_endless (llc_snap_flag s) (take f b ++ payload s)) in
+      let t = tells_both _ _ (Decides-eqb (byte_at s 6) (byte_at s 7)) (unit_endless (llc_snap_flag s) (take f b ++ payload s)) in
       let off : (bit 1 (byte_at s 5) ≡ 1 → ⊥) → bit 1 (byte_at s 5) ≡ 0 = λ n. omega arith in
       rw (← stored_is s) (
         λ q. let w = t.0 q in (w.0, off (eqb-false _ _ w.1.0), w.1.1),
@@ -218,22 +213,22 @@ module _ (s b : List ℕ) where
       rw (number_laid f, number_kept f, payload_length s l, e)
       (gives_row _ 23 (tells_over (f + (length s - 16)) (min 65535 (length b))) (λ _.
       gives_row _ 25 (unended_tells f) (λ _.
-      gives_row _ 1 (tells_not _ (tells_eq (byte_at s 6) (byte_at s 7))) (λ z.
+      gives_row _ 1 (Decides-not _ (Decides-eqb (byte_at s 6) (byte_at s 7))) (λ z.
       gives_last 0 (eqb-true _ _ (not-false _ z))))))
 
   stopped : (σ : State) → byte_at s 6 ≢ 0 → (¬ GoesOn σ s) → Gives 22 (row22 σ ∷ rows23 σ)
   unfolding first
-  stopped σ e h = gives_row {m = 0} true 22 (λ _. (e, h), λ _. refl) (λ z. absurd (never (sym z)))
+  stopped σ e h = gives_row {m = 0} true 22 (λ _. (e, h), λ _. refl) (λ z. absurd (false≢true (sym z)))
 
   gives_onward : (σ : State) → byte_at s 6 ≢ 0 → 16 ≤ length s → Gives (number (lay (onward σ s) s b)) (row22 σ ∷ rows23 σ)
   unfolding onward lay pick number_of first GoesOn
   gives_onward Idle e l = stopped Idle e (λ w. w)
   gives_onward (Open n f κ) e l = go (continues n κ s) (continues_tells n f κ s)
     where
-      go : (t : Bool) → Tells t (GoesOn (Open n f κ) s) → Gives (number (lay (pick t (From f) Nowhere) s b)) (row22 (Open n f κ) ∷ rows23 (Open n f κ))
+      go : (t : Bool) → Decides t (GoesOn (Open n f κ) s) → Gives (number (lay (pick t (From f) Nowhere) s b)) (row22 (Open n f κ) ∷ rows23 (Open n f κ))
       go true h =
-          gives_row false 22 (λ z. absurd (never z), λ w. absurd (w.1 (h.0 refl))) (λ _. gives_laid (Open n f κ) f (filled_open n f κ (byte_at s 6) e) l)
-      go false h = stopped (Open n f κ) e (λ w. never (h.1 w))
+          gives_row false 22 (λ z. absurd (false≢true z), λ w. absurd (w.1 (h.0 refl))) (λ _. gives_laid (Open n f κ) f (filled_open n f κ (byte_at s 6) e) l)
+      go false h = stopped (Open n f κ) e (λ w. false≢true (h.1 w))
 
   gives_filled : (σ : State) → 16 ≤ length s → Gives (number (lay (fill_from σ s) s b)) (row22 σ ∷ rows23 σ)
   unfolding fill_from section_number pick first
@@ -242,7 +237,7 @@ module _ (s b : List ℕ) where
       go : (t : Bool) → eqb (byte_at s 6) 0 ≡ t → Gives (number (lay (pick t (From 0) (onward σ s)) s b)) (row22 σ ∷ rows23 σ)
       go true e =
           let zero : byte_at s 6 ≡ 0 = eqb-true _ _ e in
-          gives_row false 22 (λ z. absurd (never z), λ w. absurd (w.0 zero)) (λ _. gives_laid σ 0 (filled_zero σ (byte_at s 6) zero) l)
+          gives_row false 22 (λ z. absurd (false≢true z), λ w. absurd (w.0 zero)) (λ _. gives_laid σ 0 (filled_zero σ (byte_at s 6) zero) l)
       go false e = gives_onward σ (eqb-false _ _ e) l
 
 module _ (c : Settings) (σ : State) (s b : List ℕ) where
@@ -267,17 +262,17 @@ pub receiver_means : ReceiverMeans
 unfolding or_else setup_lines own_lines payload_scrambled over_limit payload_scrambling_control last_section_number
 receiver_means c σ s b n =
     rw (number_step c σ s b)
-    ((gives_row _ 10 (tells_not _ (good_is c)) (λ _.
-    gives_row _ 11 (tells_not _ (state_tells c σ)) (λ _.
+    ((gives_row _ 10 (Decides-not _ (good_is c)) (λ _.
+    gives_row _ 11 (Decides-not _ (state_tells c σ)) (λ _.
     gives_check s _ _ (λ l.
-    gives_row _ 2 (tells_not _ (ours_tells c s)) (λ _.
-    gives_row _ 20 (tells_not _ (tells_eq (bits 5 4 (byte_at s 5)) 0)) (λ _.
-    gives_row _ 21 (tells_lt c.limit (byte_at s 7 + 1)) (λ _. gives_filled s b σ l))))))).exactly n)
+    gives_row _ 2 (Decides-not _ (ours_tells c s)) (λ _.
+    gives_row _ 20 (Decides-not _ (Decides-eqb (bits 5 4 (byte_at s 5)) 0)) (λ _.
+    gives_row _ 21 (Decides-ltb c.limit (byte_at s 7 + 1)) (λ _. gives_filled s b σ l))))))).exactly n)
 
 -- ---- the sender
 module _ (n : ℕ) (u : List ℕ) (some : 0 < n) where
   -- what is tested of their number is so of the number that the unit is cut into
-  counted : (t : Bool) (P : ℕ → Type 0) → Tells t (P (section_count n u)) → Tells t ((k : ℕ) × CutInto n u k × P k)
+  counted : (t : Bool) (P : ℕ → Type 0) → Decides t (P (section_count n u)) → Decides t ((k : ℕ) × CutInto n u k × P k)
   counted t P h = (λ e. (section_count n u, cut n u some, h.0 e), λ w. h.1 (subst P (one_cut n u some w.0 w.1) w.2))
 
 sending_pick : (t : Bool) (o r : SendOutcome) → sending_number (pick t o r).sending ≡ pick t (sending_number o.sending) (sending_number r.sending)
@@ -295,15 +290,15 @@ pub sender_means : SenderMeans
 unfolding or_else send_lines
 sender_means c llc_snap size u out n =
     rw (number_sent c llc_snap size u out)
-    ((gives_row _ 10 (tells_not _ (good_is c)) (λ _.
+    ((gives_row _ 10 (Decides-not _ (good_is c)) (λ _.
     gives_row _ 50 (tells_outside 1 4080 size) (λ e50.
-    gives_row _ 51 (tells_lt 65535 (length u)) (λ _.
+    gives_row _ 51 (Decides-ltb 65535 (length u)) (λ _.
     gives_row _ 54 (unit_not_one llc_snap u) (λ _.
     let some : 0 < size = leb-true 1 size (both_true _ _ (not-false _ e50)).0 in
-    gives_row _ 52 (counted size u some _ (λ k. c.limit < k) (tells_lt c.limit (section_count size u))) (λ _.
+    gives_row _ 52 (counted size u some _ (λ k. c.limit < k) (Decides-ltb c.limit (section_count size u))) (λ _.
     gives_row _ 53
     (counted size u some (ltb (length out) (length (flatten (sections c llc_snap size u)))) (λ k. length out < length u + 16 * k)
-    (rw (sections_bytes c llc_snap size u some) (tells_lt (length out) (length u + 16 * section_count size u)))) (λ _.
+    (rw (sections_bytes c llc_snap size u some) (Decides-ltb (length out) (length u + 16 * section_count size u)))) (λ _.
     gives_last 0 tt))))))).exactly n)
 
 pub default_means : DefaultMeans

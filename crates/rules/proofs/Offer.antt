@@ -1,12 +1,6 @@
 -- An offer is as long as its first three bytes say, or as what is left; each takes a byte or more, so the offers come to an end.
-use Prim.Native.Nat.{ℕ, zero, suc, ◌+◌, ◌≤◌, ◌<◌, min}
-use native.Mathlib.Decide.{dec_le}
-use native.Mathlib.Omega.{arith}
-use mathlib.Core.Path.{◌≡◌, refl, ap, ◌∙◌}
-use mathlib.Core.List.{List, [], ◌∷◌}
-use lib.ListN.{length, take, drop, length-drop}
-use lib.Seq.{get_or-take}
-use borrow.Author.Tests.{lt-ltb, le-ltb, ne_eqb}
+use Rattle.std.proofs.Math.Decide.{dec_le}
+use Rattle.std.proofs.Common.{ℕ, zero, suc, ◌+◌, ◌≤◌, ◌<◌, min, arith, ◌≡◌, refl, ap, ◌∙◌, List, [], ◌∷◌, length, take, drop, length-drop, get_or-take, lt-ltb, le-ltb, ne_eqb}
 use Rattle.wire.specs.Bytes.{number_at}
 use Rattle.wire.specs.Choice.{pick}
 use Rattle.rules.specs.Section.{section_length}

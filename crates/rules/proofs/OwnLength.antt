@@ -1,13 +1,5 @@
 -- A datagram's header is among its own bytes, so what the joined payloads say of their first part, that part says of itself.
-use Prim.Native.Nat.{ℕ, ◌+◌, ◌≤◌, ◌<◌}
-use native.Mathlib.Omega.{arith}
-use mathlib.Core.Path.{◌≡◌, ap, sym, ◌∙◌}
-use mathlib.Core.Logic.{inl, inr}
-use mathlib.Core.List.{List, ◌++◌}
-use mathlib.Core.Bool.{false}
-use lib.ListN.{length, length-append, take}
-use lib.Seq.{get_or-take, length-take-le}
-use borrow.Author.Tests.{ne_eqb}
+use Rattle.std.proofs.Common.{ℕ, ◌+◌, ◌≤◌, ◌<◌, arith, ◌≡◌, ap, sym, ◌∙◌, inl, inr, List, ◌++◌, false, length, length-append, take, get_or-take, length-take-le, ne_eqb}
 use Rattle.wire.specs.Bytes.{bit, bits, byte_at, number_at}
 use Rattle.rules.specs.declared.Settings.{Settings}
 use Rattle.rules.specs.Demand3.{OwnLength}
@@ -17,7 +9,7 @@ use Rattle.rules.specs.Step.{finish, joined_with, keep, laid, Outcome, room}
 use Rattle.rules.specs.UnitEnd.{BeginsWith, Says, unit_end, UnitLength}
 use Rattle.rules.proofs.After.{by_step}
 use Rattle.rules.proofs.Due.{pick_case}
-use Rattle.rules.proofs.Finish.{Carries, up_to_hands, handed, no_datagram}
+use Rattle.rules.proofs.Finish.{Carries, up_to_hands, handed}
 use Rattle.rules.proofs.Track.{laid_length, laid_take, room_bounds}
 use Rattle.rules.proofs.UnitEnd.{end_within_is, unit_ends}
 
@@ -67,10 +59,10 @@ module _ (s b : List ℕ) where
   kept : (f : ℕ) → f + length (payload s) ≤ room b → Own (keep f s b)
   unfolding keep handed_by
   kept f fits =
-      pick_case Own _ _ _ (λ _. finished f (omega (arith, (room_bounds b).1))) (λ _ off n u q. absurd (no_datagram q))
+      pick_case Own _ _ _ (λ _. finished f (omega (arith, (room_bounds b).1))) (λ _ off n u q. cc)
 
 pub own_length : (c : Settings) (h : Held) (s : List ℕ) → OwnLength s (handed_over c h (section s))
 unfolding handed_over handed_by
 own_length c h s =
-    by_step h.state s h.buffer (Own s h.buffer) (λ m r off n u q. absurd (no_datagram q)) (λ off n u q. absurd (no_datagram q))
+    by_step h.state s h.buffer (Own s h.buffer) (λ m r off n u q. cc) (λ off n u q. cc)
     (λ f e fits. kept s h.buffer f fits) c

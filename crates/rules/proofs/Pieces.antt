@@ -1,14 +1,7 @@
 -- As many pieces as the section limit hold the unit exactly where it is not longer than they are, and a section is its piece and 16 bytes more.
-use Prim.Native.Nat.{ℕ, ◌+◌, ◌*◌, ◌-◌, ◌≤◌, ◌<◌}
-use native.Mathlib.Nat.{mul_comm, mul-le-mul_right}
-use native.Mathlib.Decide.{dec_le, dec_lt}
-use native.Mathlib.Omega.{arith}
-use mathlib.Core.Path.{◌≡◌, refl, ap, sym, ◌∙◌}
-use mathlib.Core.Logic.{inl, inr, ⊎_elim}
-use mathlib.Core.List.{List, [], ◌∷◌, ◌++◌}
-use mathlib.Core.Bool.{Bool, false}
-use lib.ListN.{drop, get_or, length, length-append, take}
-use lib.Seq.{get_or-append_seam}
+use Rattle.std.proofs.Math.Decide.{dec_le, dec_lt}
+use Rattle.std.proofs.Math.Seq.{get_or-append_seam}
+use Rattle.std.proofs.Common.{lt_of_not-le, ℕ, ◌+◌, ◌*◌, ◌-◌, ◌≤◌, ◌<◌, mul_comm, mul-le-mul_right, arith, ◌≡◌, refl, ap, sym, ◌∙◌, inl, inr, ⊎_elim, List, [], ◌∷◌, ◌++◌, Bool, false, drop, get_or, length, length-append, take}
 use Rattle.wire.specs.Meaning.{FirstThat}
 use Rattle.rules.specs.declared.Settings.{Settings}
 use Rattle.rules.specs.Meaning.{CutInto, Good, sender_rows}
@@ -41,13 +34,7 @@ module _ (c : Settings) (llc_snap : Bool) (size : ℕ) (u out : List ℕ) (some 
 
   -- pieces that do not hold the unit are too few
   more : size * c.limit < length u → c.limit < count
-  more h = go (dec_lt c.limit count)
-    where
-      go : Dec (c.limit < count) → c.limit < count
-      go (yes l) = l
-      go (no l) =
-          let held : count * size ≤ c.limit * size = mul-le-mul_right size (omega arith) in
-          absurd (omega (arith, h, mul_comm size c.limit, count_covers size u some))
+  more h = lt_of_not-le (λ l. omega (arith, h, mul_comm size c.limit, count_covers size u some, mul-le-mul_right size l))
 
   enough : length u ≤ size * c.limit → count ≤ c.limit
   enough h = fewest size u some c.limit good.limit1 (omega (arith, h, mul_comm size c.limit))

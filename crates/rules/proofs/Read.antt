@@ -1,14 +1,7 @@
 -- Of a sound section each test says its fact: what the bits of a byte are, so what the byte is; and where the CRC_32 stands, what it is.
-use Prim.Native.Nat.{ℕ, ◌+◌, ◌-◌, ◌*◌, ◌/◌, ◌%◌, ◌≤◌, ◌<◌}
-use native.Mathlib.Nat.{div-div-eq-div-mul}
-use native.Mathlib.Omega.{arith}
-use mathlib.Core.Path.{◌≡◌, refl, sym, ap, ◌∙◌}
-use mathlib.Core.Bool.{Bool, true, false}
-use mathlib.Core.List.{List, ◌∷◌, ◌++◌}
-use lib.ListN.{length, take, drop, length-drop, take-append-drop}
-use lib.Dec.{eqb}
-use lib.Seq.{take-add, take_all}
-use borrow.Author.Tests.{eqb-false, eqb-true}
+use Rattle.std.proofs.Math.Nat.{div-div-eq-div-mul}
+use Rattle.std.proofs.lemmas.Bool.{eqb-false}
+use Rattle.std.proofs.Common.{ℕ, ◌+◌, ◌-◌, ◌*◌, ◌/◌, ◌%◌, ◌≤◌, ◌<◌, arith, ◌≡◌, refl, sym, ap, ◌∙◌, Bool, true, false, List, ◌∷◌, ◌++◌, length, take, drop, length-drop, take-append-drop, eqb, take-add, take_all, eqb-true}
 use Rattle.wire.specs.Bytes.{Bytes, bits, byte_at, bytes_of, number_at}
 use Rattle.wire.specs.Choice.{pick}
 use Rattle.wire.proofs.Bytes.{bytes_from, bytes_of_number_at, take_bytes}

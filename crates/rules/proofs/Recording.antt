@@ -1,12 +1,7 @@
 -- Each offer is cut off the front and takes a byte or more, so as many offers as there are bytes reach the end.
-use Prim.Native.Nat.{ℕ, zero, suc, ◌+◌, ◌≤◌, ◌<◌}
-use native.Mathlib.Nat.{le_refl}
-use native.Mathlib.Omega.{arith}
-use mathlib.Core.Path.{◌≡◌, refl}
-use mathlib.Core.List.{List, [], ◌∷◌, ◌++◌, flatten}
-use lib.ListN.{length, get_or, drop, length-append, length-drop, take-append-drop, get_or-append}
-use lib.Seq.{take_at, drop_at}
-use borrow.Author.Tests.{le-ltb}
+use mathlib.Core.List.{flatten}
+use Rattle.std.proofs.Math.ListN.{get_or-append}
+use Rattle.std.proofs.Common.{ℕ, zero, suc, ◌+◌, ◌≤◌, ◌<◌, le_refl, arith, ◌≡◌, refl, List, [], ◌∷◌, ◌++◌, length, get_or, drop, length-append, length-drop, take-append-drop, take_at, drop_at, le-ltb}
 use Rattle.wire.specs.Bytes.{number_at}
 use Rattle.wire.specs.Choice.{pick}
 use Rattle.rules.specs.Section.{section_length}

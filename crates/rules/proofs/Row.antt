@@ -1,19 +1,13 @@
 -- Demand 3 goes by the row: what is held after each event stands for the open run that the struck row ends in.
-use Prim.Native.Nat.{ℕ}
-use native.Mathlib.Omega.{arith}
-use mathlib.Core.Path.{◌≡◌, refl, ◌∙◌}
-use mathlib.Core.Logic.{◌↔◌}
-use mathlib.Core.Bool.{Bool, true, false}
-use mathlib.Core.List.{List, [], ◌∷◌, ◌++◌, append_assoc, append-nil}
+use Rattle.std.proofs.lemmas.Bool.{false≢true}
+use Rattle.std.proofs.Common.{ℕ, arith, ◌≡◌, refl, ◌∙◌, ◌↔◌, Bool, true, false, List, [], ◌∷◌, ◌++◌, append_assoc, append-nil}
 use Rattle.wire.specs.Choice.{pick}
-use Rattle.wire.proofs.Choice.{never}
 use Rattle.rules.specs.declared.Settings.{Settings}
 use Rattle.rules.specs.Step.{gap_of, good_settings, good_state}
 use Rattle.rules.specs.Row.{Event, section, gap, Held, fresh, next, after, nothing, datagram, handed_by, handed_over}
 use Rattle.rules.proofs.Tested.{elsewhere, strike, Ready, RowTheorem}
 use Rattle.rules.proofs.Runs.{no_gap}
 use Rattle.rules.proofs.Made.{made_tested}
-use Rattle.rules.proofs.Finish.{no_datagram}
 use Rattle.rules.proofs.Due.{passes, Holds, started, due_holds, due_hands, due}
 
 -- ---- the struck row
@@ -41,7 +35,7 @@ pub struck_held : (c : Settings) (h : Held) (e : Event) → good_settings c ≡ 
     → elsewhere c e ≡ true → next c h e ≡ h
 unfolding next elsewhere
 struck_held c h (section s) good fine struck = rw (passes c h.state s h.buffer good fine struck)
-struck_held c h gap good fine struck = absurd (never struck)
+struck_held c h gap good fine struck = absurd (false≢true struck)
 
 -- nothing is handed over
 struck_hands : (c : Settings) (h : Held) (e : Event) → good_settings c ≡ true → good_state c h.state ≡ true
@@ -63,7 +57,7 @@ module _ (c : Settings) (b : List ℕ) (good : good_settings c ≡ true) where
   unfolding handed_over
   kept_hands past h (section s) i kept n d = due_hands c b (due c b past h i s good kept) n d
   kept_hands past h gap i kept n d =
-      (λ p. absurd (no_datagram p), λ w. absurd (no_gap past w.there (omega (arith, w.run.whole))))
+      (λ p. cc, λ w. absurd (no_gap past w.there (omega (arith, w.run.whole))))
 
   -- ---- a row
   event_holds : (past : List Event) (h : Held) (e : Event) → Holds c b past h → Holds c b (past ++ strike c (e ∷ [])) (next c h e)

@@ -1,18 +1,15 @@
 -- A section's number and its index in the row say where its run begins, so runs that share a section are one.
-use Prim.Native.Nat.{ℕ, ◌+◌, ◌-◌, ◌≤◌, ◌<◌}
-use native.Mathlib.Decide.{dec_le, dec_lt}
-use native.Mathlib.Omega.{arith}
-use mathlib.Core.Path.{◌≡◌, ap, sym, ◌∙◌}
-use mathlib.Core.List.{List, [], ◌∷◌, ◌++◌, map, append_assoc, append-nil}
-use lib.ListN.{length, get_or, take, length-append, length-map, get_or-append, get_or-map}
-use lib.Seq.{ext_get_or, get_or-append-add, get_or-append_seam}
+use Rattle.std.proofs.Math.Decide.{dec_le, dec_lt}
+use Rattle.std.proofs.Math.ListN.{get_or-append, get_or-map}
+use Rattle.std.proofs.Math.Seq.{get_or-append_seam}
+use Rattle.std.proofs.lemmas.List.{length-map, length_push, map_push, same_from_push, take_more}
+use Rattle.std.proofs.Common.{ℕ, ◌+◌, ◌-◌, ◌≤◌, ◌<◌, arith, ◌≡◌, ap, sym, ◌∙◌, List, [], ◌∷◌, ◌++◌, map, append_assoc, append-nil, length, get_or, take, take_all, length-append, ext_get_or, get_or-append-add}
 use Rattle.rules.specs.declared.Settings.{Settings}
 use Rattle.rules.specs.declared.Key.{Key}
 use Rattle.rules.specs.Section.{payload}
 use Rattle.rules.specs.Step.{room}
 use Rattle.rules.specs.Row.{Event, section, gap}
 use Rattle.rules.proofs.Tested.{joined, Ends, InRun, Run, WholeRun}
-use Rattle.rules.proofs.Lists.{length_more, map_more, split_last, first_parts}
 
 pub joined_more : (xs : List (List ℕ)) (s : List ℕ) → joined (xs ++ (s ∷ [])) ≡ joined xs ++ payload s
 unfolding joined
@@ -38,7 +35,7 @@ ends_at {row} {xs} e j =
 ends_last : (past : List Event) (v : Event) {xs : List (List ℕ)} (n : ℕ) → Ends (past ++ (v ∷ [])) xs → length xs ≡ n + 1
     → v ≡ section (get_or xs n [])
 ends_last past v n e h =
-    let index : length past ≡ length e.front + n = omega (arith, ends_size e, length_more past v) in
+    let index : length past ≡ length e.front + n = omega (arith, ends_size e, length_push past v) in
     sym (get_or-append_seam past v [] (section []))
     ∙ ap (λ (i : ℕ). get_or (past ++ (v ∷ [])) i (section [])) index
     ∙ ends_at e n
@@ -47,8 +44,7 @@ ends_last past v n e h =
 pub no_gap : (past : List Event) {xs : List (List ℕ)} → Ends (past ++ (gap ∷ [])) xs → 0 < length xs → ⊥
 no_gap past {xs} e some =
     let last : gap ≡ section (get_or xs (length xs - 1) []) = ends_last past gap (length xs - 1) e (omega arith) in
-    let z : ◌≡◌ {A = ℕ} 0 1 = cc in
-    omega arith
+    cc
 
 module _ (c : Settings) (b : List ℕ) where
   -- the row ends in the run xs
@@ -73,12 +69,12 @@ module _ (c : Settings) (b : List ℕ) where
   more {row} {κ} {xs} s e p h =
       record {
         run = record { each = λ i k. at i k (dec_lt i (length xs)); fits = rw (joined_length xs s) h };
-        there = record { front = e.there.front; split = rw (map_more section xs s, ← append_assoc, ← e.there.split) };
+        there = record { front = e.there.front; split = rw (map_push section xs s, ← append_assoc, ← e.there.split) };
       }
     where
       at : (i : ℕ) → i < length (xs ++ (s ∷ [])) → Dec (i < length xs) → InRun c κ i (get_or (xs ++ (s ∷ [])) i [])
       at i k (yes l) = rw (get_or-append xs (s ∷ []) [] i l) (e.run.each i l)
-      at i k (no l) = let is : i ≡ length xs = omega (arith, length_more xs s) in rw (is, get_or-append_seam xs s [] []) p
+      at i k (no l) = let is : i ≡ length xs = omega (arith, length_push xs s) in rw (is, get_or-append_seam xs s [] []) p
 
   -- ---- one section less
   -- the section s goes on with a run that the row past ends in
@@ -93,19 +89,16 @@ module _ (c : Settings) (b : List ℕ) where
   next_of {past} {s} {κ} init e =
       let before : List Event = e.there.front ++ map section init in
       let split : past ++ (section s ∷ []) ≡ before ++ (section s ∷ []) =
-      e.there.split ∙ rw (map_more section init s, append_assoc) in
-      let sizes : length past ≡ length before =
-      omega (arith, ap length split, length_more past (section s), length_more before (section s)) in
+      e.there.split ∙ rw (map_push section init s, append_assoc) in
       let run : Run c b κ init =
       record {
-        each = λ i h. rw (get_or-append init (s ∷ []) [] i h) at (e.run.each i (omega (arith, length_more init s)));
+        each = λ i h. rw (get_or-append init (s ∷ []) [] i h) at (e.run.each i (omega (arith, length_push init s)));
         fits = omega (arith, joined_length init s, e.run.fits);
       } in
       record {
         init = init;
-        before =
-            record { run = run; there = record { front = e.there.front; split = first_parts past before _ _ split sizes } };
-        in_run = rw (get_or-append_seam init s [] []) at (e.run.each (length init) (omega (arith, length_more init s)));
+        before = record { run = run; there = record { front = e.there.front; split = (same_from_push past before _ _ split).0 } };
+        in_run = rw (get_or-append_seam init s [] []) at (e.run.each (length init) (omega (arith, length_push init s)));
         fits = rw (joined_length init s) at e.run.fits;
       }
 
@@ -115,7 +108,8 @@ module _ (c : Settings) (b : List ℕ) where
       let n : ℕ = length xs - 1 in
       let last : section s ≡ section (get_or xs n []) = ends_last past (section s) n e.there (omega arith) in
       let is : get_or xs n [] ≡ s = cc in
-      let split : xs ≡ take n xs ++ (s ∷ []) = rw is at (split_last xs [] n (omega arith)) in
+      let whole : take (n + 1) xs ≡ xs = take_all (n + 1) xs (omega arith) in
+      let split : xs ≡ take n xs ++ (s ∷ []) = rw (whole, is) at (take_more xs n [] (omega arith)) in
       next_of (take n xs) (rw split at e)
 
   -- ---- runs that share a section

@@ -1,19 +1,15 @@
 -- Each section that a sender writes is what table 3 writes for its piece of the unit, with ones in the reserved bits.
-use Prim.Native.Nat.{ℕ, zero, suc, ◌+◌, ◌*◌, ◌-◌, ◌≤◌, ◌<◌}
-use native.Mathlib.Decide.{dec_lt}
-use native.Mathlib.Nat.{suc-mul, zero-mul}
-use native.Mathlib.Omega.{arith}
-use mathlib.Core.Path.{◌≡◌, refl, ap, sym, ◌∙◌}
-use mathlib.Core.Bool.{Bool}
-use mathlib.Core.List.{List, [], ◌∷◌, ◌++◌, append_assoc, append-nil, flatten, map}
-use lib.ListN.{get_or, length, length-append, length-drop, length-take, get_or-append, take}
-use lib.Seq.{get_or-append_seam, get_or_at}
+use Rattle.std.proofs.Math.Decide.{dec_lt}
+use mathlib.Core.List.{flatten}
+use Rattle.std.proofs.Math.ListN.{get_or-append}
+use Rattle.std.proofs.Math.Seq.{get_or-append_seam}
+use Rattle.std.proofs.lemmas.List.{get_or_at, length_push, map_push}
+use Rattle.std.proofs.Common.{ℕ, zero, suc, ◌+◌, ◌*◌, ◌-◌, ◌≤◌, ◌<◌, suc-mul, zero-mul, arith, ◌≡◌, refl, ap, sym, ◌∙◌, Bool, List, [], ◌∷◌, ◌++◌, append_assoc, append-nil, map, get_or, length, length-append, length-drop, length-take, take}
 use Rattle.rules.specs.declared.Settings.{Settings}
 use Rattle.rules.specs.Demand2.{Sections, SectionSent}
 use Rattle.rules.specs.Demand3.{joined}
 use Rattle.rules.specs.Send.{piece, section_at, section_count, sections, sections_to}
 use Rattle.rules.specs.Sound.{table3, Values}
-use Rattle.rules.proofs.Lists.{length_more, map_more}
 use Rattle.rules.proofs.Send.{count_needed, count_some, cut, pieces_all, pieces_more}
 use Rattle.rules.proofs.Written.{sent, sent_is}
 
@@ -36,7 +32,7 @@ module _ (c : Settings) (llc_snap : Bool) (n : ℕ) (u : List ℕ) where
   values_length : (k : ℕ) → length (values_to k) ≡ k
   unfolding values_to
   values_length zero = refl
-  values_length (suc k) = length_more (values_to k) (value k) ∙ omega (arith, values_length k)
+  values_length (suc k) = length_push (values_to k) (value k) ∙ omega (arith, values_length k)
 
   values_at : (k i : ℕ) → i < k → get_or (values_to k) i (value 0) ≡ value i
   unfolding values_to
@@ -53,7 +49,7 @@ module _ (c : Settings) (llc_snap : Bool) (n : ℕ) (u : List ℕ) where
   unfolding values_to sections_to section_at
   values_written zero = refl
   values_written (suc k) =
-      rw (map_more table3 (values_to k) (value k), values_written k, sent_is c.address llc_snap k (count - 1) (piece n u k))
+      rw (map_push table3 (values_to k) (value k), values_written k, sent_is c.address llc_snap k (count - 1) (piece n u k))
 
   values_joined : (k : ℕ) → joined (values_to k) ≡ take (k * n) u
   unfolding values_to joined

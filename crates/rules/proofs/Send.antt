@@ -1,26 +1,20 @@
 -- Pieces of n bytes are cut off the front until nothing is left, so the first k of them are the unit's first k * n bytes.
-use Prim.Native.Nat.{ℕ, zero, suc, ◌+◌, ◌*◌, ◌-◌, ◌/◌, ◌≤◌, ◌<◌, max}
-use native.Mathlib.Nat.{div-mul-le_self, le-max_right, le_refl, lt-div-mul-add, mul-le-mul_left, mul-le-mul_right, suc-mul, zero-mul}
-use native.Mathlib.Decide.{dec_le, dec_lt, ℕ_discrete}
-use native.Mathlib.Omega.{arith}
-use mathlib.Core.Path.{◌≡◌, refl, ap, sym, ◌∙◌}
-use mathlib.Core.Bool.{Bool}
-use mathlib.Core.List.{List, [], ◌∷◌, ◌++◌, flatten, append_assoc, append-nil}
-use lib.ListN.{length, get_or, take, drop, length-append, length-take, length-drop, drop_of_length-le}
-use lib.Seq.{drop-drop, get_or_at, get_or-take, take-add, take_all, take-append-le, take_at}
-use borrow.Author.Tests.{eq-eqb, ne_eqb, leb-true, ltb-false, not-false}
+use Rattle.std.proofs.Math.Nat.{le-max_right, lt-div-mul-add}
+use Rattle.std.proofs.Math.Decide.{dec_le, dec_lt, ℕ_discrete}
+use mathlib.Core.List.{flatten}
+use Rattle.std.proofs.lemmas.Bool.{not-false}
+use Rattle.std.proofs.lemmas.List.{get_or_at, take-append-le, length_push}
+use Rattle.std.proofs.Common.{ℕ, zero, suc, ◌+◌, ◌*◌, ◌-◌, ◌/◌, ◌≤◌, ◌<◌, max, div-mul-le_self, le_refl, mul-le-mul_right, suc-mul, zero-mul, arith, ◌≡◌, refl, ap, sym, ◌∙◌, Bool, List, [], ◌∷◌, ◌++◌, append_assoc, append-nil, length, get_or, take, drop, length-append, length-take, length-drop, drop_of_length-le, drop-drop, get_or-take, take-add, take_all, take_at, eq-eqb, ne_eqb, leb-true, ltb-false, Some}
 use Rattle.wire.specs.Bytes.{over}
 use Rattle.wire.specs.Choice.{pick, first_of}
 use Rattle.rules.specs.declared.Address.{Address}
 use Rattle.rules.specs.declared.Settings.{Settings}
-use Rattle.std.specs.Prelude.{Some}
 use Rattle.rules.specs.Answers.{Sent, Unsent}
 use Rattle.rules.specs.Section.{header, section_of}
 use Rattle.rules.specs.Meaning.{CutInto, Good}
 use Rattle.rules.proofs.Tested.{joined}
 use Rattle.rules.specs.Send.{piece, section_at, section_count, sections, sections_to, sending_length, sending_number, send_lines, SendOutcome, sent_of, written}
 use Rattle.rules.specs.UnitEnd.{unit_end}
-use Rattle.rules.proofs.Lists.{length_more}
 use Rattle.rules.proofs.Runs.{joined_more}
 use Rattle.wire.proofs.Choice.{both_true, none_first}
 use Rattle.rules.proofs.Good.{good_is}
@@ -98,7 +92,7 @@ module _ (c : Settings) (llc_snap : Bool) (n : ℕ) (u out : List ℕ) where
       go (yes q) =
           let size : Sent (length (flatten (sections c llc_snap n u))) ≡ Sent m = rw (sent_is q) at p in
           record { accepted = accepted q; size = cc; output = ap (λ (o : SendOutcome). o.output) (sent_is q) }
-      go (no q) = let other = rw (unsent_is q) at p in let z : ◌≡◌ {A = ℕ} 0 1 = cc in absurd (omega arith)
+      go (no q) = let other = rw (unsent_is q) at p in cc
 
   -- the m bytes sent-all are within the output
   pub sent_all_fits : (m : ℕ) → (sent_of c llc_snap n u out).sending ≡ Sent m → m ≤ length out
@@ -135,14 +129,6 @@ module _ (n : ℕ) (u : List ℕ) (some : 0 < n) where
       let next : suc (suc k) ≤ q = omega arith in
       let more : suc (suc k) * n ≤ q * n = mul-le-mul_right n next in
       let step : suc (suc k) * n ≡ suc k * n + n = suc-mul (suc k) n in
-      omega arith
-
-  -- no more than one for each byte, and one
-  pub count_most : section_count n u ≤ length u + 1
-  count_most =
-      let k : ℕ = section_count n u - 1 in
-      let needed : k * n ≤ length u = count_needed k (omega (arith, count_some n u)) in
-      let more : k * 1 ≤ k * n = mul-le-mul_left k some in
       omega arith
 
   -- ---- it is cut into so many
@@ -218,7 +204,7 @@ module _ (c : Settings) (llc_snap : Bool) (n : ℕ) (u : List ℕ) where
   pub sections_length : (k : ℕ) → length (sections_to c llc_snap n u k) ≡ k
   unfolding sections_to
   sections_length zero = refl
-  sections_length (suc k) = length_more (sections_to c llc_snap n u k) (section_at c llc_snap n u k) ∙ omega (arith, sections_length k)
+  sections_length (suc k) = length_push (sections_to c llc_snap n u k) (section_at c llc_snap n u k) ∙ omega (arith, sections_length k)
 
   -- the first i of them
   pub sections_take : (k i : ℕ) → i ≤ k → take i (sections_to c llc_snap n u k) ≡ sections_to c llc_snap n u i

@@ -1,12 +1,6 @@
 -- A section is sound where no line of the check applies, so each line's test is false of it, and the test says the fact.
-use Prim.Native.Nat.{ℕ, ◌+◌, ◌-◌, ◌≤◌}
-use native.Mathlib.Omega.{arith}
-use mathlib.Core.Path.{◌≡◌, refl}
-use mathlib.Core.List.{List}
-use mathlib.Core.Bool.{false, not}
-use lib.ListN.{length, take, length-take, length-drop}
-use lib.Dec.{eqb}
-use borrow.Author.Tests.{le-ltb, ltb-false, eqb-false, eqb-true, not-false}
+use Rattle.std.proofs.lemmas.Bool.{eqb-false, not-false}
+use Rattle.std.proofs.Common.{ℕ, ◌+◌, ◌-◌, ◌≤◌, arith, ◌≡◌, refl, List, false, not, length, take, length-take, length-drop, eqb, le-ltb, ltb-false, eqb-true}
 use Rattle.wire.specs.Choice.{both, first, first_of, without}
 use Rattle.wire.proofs.Choice.{either_false, none_first, none_parts}
 use Rattle.rules.specs.Crc.{crc32}

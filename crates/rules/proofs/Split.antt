@@ -1,9 +1,5 @@
 -- Request 2 put one row before another, which kept the rest of what it meant: a table's answer changes there and nowhere else.
-use Prim.Native.Nat.{ℕ}
-use native.Mathlib.Omega.{arith}
-use mathlib.Core.Path.{◌≡◌, refl, sym, subst, ◌∙◌}
-use mathlib.Core.Logic.{◌↔◌, ◌≢◌, ◌⊎◌, inl, inr, ⊎_elim}
-use mathlib.Core.List.{List, [], ◌∷◌}
+use Rattle.std.proofs.Common.{ℕ, arith, ◌≡◌, refl, sym, subst, ◌∙◌, ◌↔◌, ◌≢◌, ◌⊎◌, inl, inr, ⊎_elim, List, [], ◌∷◌}
 use Rattle.wire.specs.Meaning.{FirstThat, otherwise, Row, ◌means◌}
 use Rattle.rules.specs.Meaning.{FifteenSplits, InChecksumForm}
 use Rattle.rules.proofs.Meaning.{check_means, indicated}

@@ -1,14 +1,7 @@
 -- Demand 3 by the receiver's own tests: how the proofs speak of runs, before proofs/Demand3.antt puts it in the statement's words.
-use Prim.Native.Nat.{ℕ, ◌+◌, ◌≤◌, ◌<◌}
-use mathlib.Core.Path.{◌≡◌}
-use mathlib.Core.Logic.{◌↔◌}
-use mathlib.Core.List.{List, [], ◌∷◌, ◌++◌, map}
-use mathlib.Core.Bool.{Bool, true, false, not}
-use lib.ListN.{length, get_or, take}
-use lib.Dec.{eqb}
+use Rattle.std.proofs.Common.{ℕ, ◌+◌, ◌≤◌, ◌<◌, ◌≡◌, ◌↔◌, List, [], ◌∷◌, ◌++◌, map, Bool, true, false, not, length, get_or, take, eqb, Some}
 use Rattle.wire.specs.Choice.{pick, both}
 use Rattle.rules.specs.declared.Settings.{Settings}
-use Rattle.std.specs.Prelude.{Some}
 use Rattle.rules.specs.declared.Key.{Key}
 use Rattle.rules.specs.Check.{check}
 use Rattle.rules.specs.Section.{last_section_number, payload, payload_scrambling_control, section_number}

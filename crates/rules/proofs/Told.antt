@@ -1,7 +1,5 @@
 -- What the code's answers tell names them: two answers of which the same is told are equal.
-use Rattle.std.specs.Prelude.{ℕ, ◌≡◌, ◌≢◌, eqb, Result, Ok, Err}
-use mathlib.Core.Path.{refl, ap, sym, ◌∙◌}
-use Rattle.std.proofs.Common.{arith}
+use Rattle.std.proofs.Common.{ℕ, ◌≡◌, ◌≢◌, eqb, Result, Ok, Err, refl, ap, sym, ◌∙◌, arith}
 use Rattle.wire.specs.Choice.{pick}
 use Rattle.rules.specs.declared.Refusal.{Refusal}
 use Rattle.rules.specs.declared.Refusal.TheVariants as refusal
@@ -9,7 +7,7 @@ use Rattle.rules.specs.declared.Reception.{Reception}
 use Rattle.rules.specs.declared.Reception.TheVariants as reception
 use Rattle.rules.specs.declared.Step.{Step as CodeStep}
 use Rattle.rules.specs.Answers.{Answer, Delivered, Stored, PassedBy, Refused, Step, Sending, Sent, Unsent}
-use Rattle.rules.specs.Told.{number, refusal_number, answer_told, step_told, sending_told}
+use Rattle.rules.specs.Told.{number, refusal_number, answer_told, step_told, sending_told, ToldNames}
 
 -- the refusal that has the number n
 unfoldable named : ℕ → Refusal
@@ -118,3 +116,6 @@ sending_named_is (Err r) = ap Err (named_is r)
 
 pub sending_same : (x y : Result ℕ Refusal) → sending_told x ≡ sending_told y → x ≡ y
 sending_same x y e = sym (sending_named_is x) ∙ ap sending_named e ∙ sending_named_is y
+
+pub told_names : ToldNames
+told_names = record { refusal = refusal_number_same; answer = answer_same; sending = sending_same }

@@ -1,14 +1,8 @@
 -- A payload goes somewhere exactly where it goes on with a run that the row ends in, since the state says which run that is.
-use Prim.Native.Nat.{ℕ, ◌+◌, ◌≤◌, ◌<◌}
-use native.Mathlib.Nat.{le_refl}
-use native.Mathlib.Omega.{arith}
-use mathlib.Core.Path.{◌≡◌, refl, ap, sym, ◌∙◌}
-use mathlib.Core.Bool.{Bool, true, false}
-use mathlib.Core.List.{List, [], ◌∷◌, ◌++◌}
-use lib.ListN.{length, get_or, take}
-use lib.Seq.{length-paste, take-paste, take-length}
-use lib.Dec.{eqb}
-use borrow.Author.Tests.{eqb-true, eq-eqb, ne_eqb}
+use Rattle.std.proofs.Math.Seq.{take-length}
+use Rattle.std.proofs.lemmas.List.Edits.{length-paste, take-paste}
+use Rattle.std.proofs.lemmas.List.{length_push}
+use Rattle.std.proofs.Common.{ℕ, ◌+◌, ◌≤◌, ◌<◌, le_refl, arith, ◌≡◌, refl, ap, sym, ◌∙◌, Bool, true, false, List, [], ◌∷◌, ◌++◌, length, get_or, take, eqb, eqb-true, eq-eqb, ne_eqb}
 use Rattle.wire.specs.Choice.{pick, both}
 use Rattle.rules.specs.declared.Settings.{Settings}
 use Rattle.rules.specs.declared.Key.{Key}
@@ -19,7 +13,6 @@ use Rattle.rules.specs.Section.{section_number, last_section_number, llc_snap_fl
 use Rattle.rules.specs.Step.{continues, key_of, laid, onward, Nowhere, From, fill_from, room}
 use Rattle.rules.specs.Row.{Event, section}
 use Rattle.rules.proofs.Tested.{joined, Receivable, InRun}
-use Rattle.rules.proofs.Lists.{length_more}
 use Rattle.rules.proofs.Keys.{same_key_is, key_same}
 use Rattle.wire.proofs.Choice.{both_true}
 use Rattle.rules.proofs.Sound.{sound}
@@ -54,9 +47,6 @@ laid_take f s b h =
 pub laid_length : (f : ℕ) (s b : List ℕ) → f + length (payload s) ≤ length b → length (laid f s b) ≡ length b
 unfolding laid
 laid_length f s b h = length-paste b f (payload s) (length (payload s)) h (le_refl _)
-
-pub nowhere : {f : ℕ} → Nowhere ≡ From f → ⊥
-nowhere p = let z : ◌≡◌ {A = ℕ} 0 1 = cc in omega arith
 
 -- ---- what a state stands for
 module _ (c : Settings) (b : List ℕ) where
@@ -97,10 +87,10 @@ module _ (c : Settings) (b : List ℕ) where
           let parts = both_true _ _ q in
           let is : f ≡ g = cc in
           rw (eqb-true (section_number s) e parts.0, same_key_is (key_of s) κ parts.1, is) t.gathered
-      goes_on e g κ false q t p = absurd (nowhere p)
+      goes_on e g κ false q t p = cc
 
       further : (σ : State) → Track row σ now → onward σ s ≡ From f → Gathered row now (section_number s) f (key_of s)
-      further Idle t p = absurd (nowhere p)
+      further Idle t p = cc
       further (Open e g κ) t p = goes_on e g κ (continues e κ s) refl t p
 
       from_zero : (u : Bool) → eqb (section_number s) 0 ≡ u → pick u (From 0) (onward σ s) ≡ From f
@@ -140,7 +130,7 @@ module _ (c : Settings) (b : List ℕ) where
       record {
         sections = g.sections ++ (s ∷ []);
         run = more c b s g.run in_run (omega (arith, g.filled));
-        count = omega (arith, length_more g.sections s, g.count);
+        count = omega (arith, length_push g.sections s, g.count);
         filled = omega (arith, joined_length g.sections s, g.filled);
         bytes = laid_take f s now (omega (arith, (room_bounds b).1)) ∙ rw (g.bytes, joined_more g.sections s);
       }

@@ -1,18 +1,9 @@
 -- A header says one length at most, so the rule's tests find an end exactly where the joined payloads begin with a datagram.
-use Prim.Native.Nat.{ℕ, ◌+◌, ◌≤◌}
-use native.Mathlib.Omega.{arith}
-use mathlib.Core.Path.{◌≡◌, refl, ap, subst, sym, ◌∙◌}
-use mathlib.Core.Logic.{◌↔◌, inl, inr, ⊎_elim}
-use mathlib.Core.List.{List}
-use mathlib.Core.Bool.{Bool, true, false, not}
-use lib.ListN.{length}
-use lib.Dec.{eqb, leb}
-use borrow.Author.Tests.{eq-eqb, eqb-false, eqb-true, leb-false, leb-true}
+use Rattle.std.proofs.lemmas.Option.{none-some, same_Some}
+use Rattle.std.proofs.lemmas.Bool.{false≢true, eqb-false}
+use Rattle.std.proofs.Common.{Decides, ℕ, ◌+◌, ◌≤◌, arith, ◌≡◌, refl, ap, subst, sym, ◌∙◌, ◌↔◌, inl, inr, ⊎_elim, List, Bool, true, false, not, length, eqb, leb, eq-eqb, eqb-true, leb-false, leb-true, Option, Some, None}
 use Rattle.wire.specs.Bytes.{bits, byte_at, number_at}
 use Rattle.wire.specs.Choice.{both, pick}
-use Rattle.wire.proofs.Choice.{never}
-use Rattle.wire.proofs.Meaning.{Tells}
-use Rattle.std.specs.Prelude.{Option, Some, None}
 use Rattle.rules.specs.UnitEnd.{BeginsWith, datagram_end, ends_at, end_within, NoDatagram, NotOneDatagram, payload_length, Says, total_length, unit_end, UnitLength, version}
 
 -- ---- ends
@@ -20,12 +11,6 @@ use Rattle.rules.specs.UnitEnd.{BeginsWith, datagram_end, ends_at, end_within, N
 unfoldable pub endless : Option ℕ → Bool
 endless (Some n) = false
 endless None = true
-
-pub same_end : {m n : ℕ} → Some m ≡ Some n → m ≡ n
-same_end p = cc
-
-pub no_end : {n : ℕ} → None ≡ Some n → ⊥
-no_end p = let z : ◌≡◌ {A = ℕ} 0 1 = cc in omega arith
 
 -- ---- what a header says
 module _ (p : List ℕ) where
@@ -81,20 +66,20 @@ module _ (p : List ℕ) where
 
   at_begins : {e : Option ℕ} (n : ℕ) → Found e → (e ≡ Some n) ↔ BeginsWith p n
   at_begins n (begins {n = m} w) =
-      (λ q. subst (BeginsWith p) (same_end q) w, λ v. ap Some (begins_one m n w v))
-  at_begins n (none w) = (λ q. absurd (no_end q), λ v. absurd (begins_not n v w))
+      (λ q. subst (BeginsWith p) (same_Some _ _ q) w, λ v. ap Some (begins_one m n w v))
+  at_begins n (none w) = (λ q. absurd (none-some _ q), λ v. absurd (begins_not n v w))
 
-  endless_tells : {e : Option ℕ} → Found e → Tells (endless e) (NoDatagram p)
+  endless_tells : {e : Option ℕ} → Found e → Decides (endless e) (NoDatagram p)
   unfolding endless
-  endless_tells (begins {n = n} w) = (λ q. absurd (never q), λ v. absurd (begins_not n w v))
+  endless_tells (begins {n = n} w) = (λ q. absurd (false≢true q), λ v. absurd (begins_not n w v))
   endless_tells (none w) = (λ _. w, λ _. refl)
 
-  not_tells : {e : Option ℕ} → Found e → Tells (not (ends_at (length p) e)) (NotOneDatagram p)
+  not_tells : {e : Option ℕ} → Found e → Decides (not (ends_at (length p) e)) (NotOneDatagram p)
   unfolding ends_at
   not_tells (begins {n = n} w) = go (eqb n (length p)) refl
     where
-      go : (t : Bool) → eqb n (length p) ≡ t → Tells (not t) (NotOneDatagram p)
-      go true e = (λ q. absurd (never q), λ v. absurd (one v))
+      go : (t : Bool) → eqb n (length p) ≡ t → Decides (not t) (NotOneDatagram p)
+      go true e = (λ q. absurd (false≢true q), λ v. absurd (one v))
         where
           one : NotOneDatagram p → ⊥
           one (inl v) = begins_not n w v
@@ -107,7 +92,7 @@ module _ (p : List ℕ) where
 -- ---- with the flag, or without it
 pub unit_ends : (llc_snap : Bool) (p : List ℕ) (n : ℕ) → (unit_end llc_snap p ≡ Some n) ↔ UnitLength llc_snap p n
 unfolding unit_end UnitLength pick
-unit_ends true p n = (λ q. sym (same_end q), λ e. ap Some (sym e))
+unit_ends true p n = (λ q. sym (same_Some _ _ q), λ e. ap Some (sym e))
 unit_ends false p n = at_begins p n (found p)
 
 -- a unit is no longer than the joined payloads
@@ -117,19 +102,19 @@ end_within_is true p n q = omega (arith, (unit_ends true p n).0 q)
 end_within_is false p n q = ((unit_ends false p n).0 q).most
 
 -- 25, and 54
-pub unit_endless : (llc_snap : Bool) (p : List ℕ) → Tells (endless (unit_end llc_snap p)) ((llc_snap ≡ false) × NoDatagram p)
+pub unit_endless : (llc_snap : Bool) (p : List ℕ) → Decides (endless (unit_end llc_snap p)) ((llc_snap ≡ false) × NoDatagram p)
 unfolding unit_end endless pick
-unit_endless true p = (λ q. absurd (never q), λ w. absurd (never (sym w.0)))
+unit_endless true p = (λ q. absurd (false≢true q), λ w. absurd (false≢true (sym w.0)))
 unit_endless false p = let t = endless_tells p (found p) in (λ q. (refl, t.0 q), λ w. t.1 w.1)
 
-pub unit_not_one : (llc_snap : Bool) (p : List ℕ) → Tells (not (ends_at (length p) (unit_end llc_snap p))) ((llc_snap ≡ false) × NotOneDatagram p)
+pub unit_not_one : (llc_snap : Bool) (p : List ℕ) → Decides (not (ends_at (length p) (unit_end llc_snap p))) ((llc_snap ≡ false) × NotOneDatagram p)
 unfolding unit_end ends_at pick
 unit_not_one true p =
-    (λ q. absurd (never (rw (eq-eqb (length p) (length p) refl) at q)), λ w. absurd (never (sym w.0)))
+    (λ q. absurd (false≢true (rw (eq-eqb (length p) (length p) refl) at q)), λ w. absurd (false≢true (sym w.0)))
 unit_not_one false p = let t = not_tells p (found p) in (λ q. (refl, t.0 q), λ w. t.1 w.1)
 
 -- where 54 does not apply, the unit ends where its bytes do
 pub ends_at_is : (n : ℕ) (e : Option ℕ) → ends_at n e ≡ true → e ≡ Some n
 unfolding ends_at
 ends_at_is n (Some m) q = ap Some (eqb-true m n q)
-ends_at_is n None q = absurd (never q)
+ends_at_is n None q = absurd (false≢true q)

@@ -1,14 +1,5 @@
 -- The twelve header bytes stand where table 3 puts them, so each field computes; the CRC_32 is written where it is read.
-use Prim.Native.Nat.{ℕ, ◌+◌, ◌-◌, ◌*◌, ◌/◌, ◌%◌, ◌≤◌, ◌<◌}
-use native.Mathlib.Omega.{arith}
-use native.Mathlib.Nat.{mod-eq_of_lt}
-use mathlib.Core.Path.{◌≡◌, refl, sym, ap, ◌∙◌}
-use mathlib.Core.List.{List, [], ◌∷◌, ◌++◌, append-nil}
-use mathlib.Core.Bool.{Bool, true, false, not}
-use lib.ListN.{length, take, length-append}
-use lib.Dec.{eqb}
-use lib.Seq.{take_at}
-use borrow.Author.Tests.{eq-eqb, le-ltb}
+use Rattle.std.proofs.Common.{ℕ, ◌+◌, ◌-◌, ◌*◌, ◌/◌, ◌%◌, ◌≤◌, ◌<◌, arith, mod-eq_of_lt, ◌≡◌, refl, sym, ap, ◌∙◌, List, [], ◌∷◌, ◌++◌, append-nil, Bool, true, false, not, length, take, length-append, eqb, take_at, eq-eqb, le-ltb}
 use Rattle.wire.specs.Bytes.{bits, byte_at, bytes_of, number_at}
 use Rattle.wire.specs.Choice.{pick, both, either, first_of}
 use Rattle.wire.proofs.Bytes.{length_bytes_of, number_at_bytes_of}

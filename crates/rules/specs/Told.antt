@@ -1,5 +1,5 @@
 -- What the code's answers tell, in the papers' words: each refusal has its number.
-use Rattle.std.specs.Prelude.{ℕ, Result, Ok, Err}
+use Rattle.std.specs.Prelude.{ℕ, ◌≡◌, Result, Ok, Err}
 use Rattle.rules.specs.declared.Refusal.{Refusal}
 use Rattle.rules.specs.declared.Refusal.TheVariants as refusal
 use Rattle.rules.specs.declared.Reception.{Reception}
@@ -54,3 +54,9 @@ step_told s = record { answer = answer_told s.answer; state = s.state }
 unfoldable pub sending_told : Result ℕ Refusal → Sending
 sending_told (Ok n) = Sent n
 sending_told (Err r) = Unsent (number r)
+
+-- what is told names the answer: two of which the same is told are equal. A theorem, shown in proofs/Told.antt
+pub record ToldNames : Type 0 where
+  pub refusal : (x y : Result Unit Refusal) → refusal_number x ≡ refusal_number y → x ≡ y
+  pub answer : (x y : Result Reception Refusal) → answer_told x ≡ answer_told y → x ≡ y
+  pub sending : (x y : Result ℕ Refusal) → sending_told x ≡ sending_told y → x ≡ y

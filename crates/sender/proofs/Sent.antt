@@ -9,7 +9,7 @@ use lib.ListN.{length}
 use lib.Seq.{take_all, take-length}
 use Rattle.wire.specs.Choice.{first_of}
 use Rattle.rules.specs.declared.Settings.{Settings}
-use Rattle.std.specs.Prelude.{Result, Ok, Err}
+use Rattle.std.specs.Prelude.{Ok, Err}
 use Rattle.rules.specs.declared.Refusal.{Refusal}
 use Rattle.rules.specs.Answers.{Sent, Unsent}
 use Rattle.rules.specs.Told.{number, sending_told}

@@ -1,38 +1,20 @@
 -- After i turns the output begins with the first i sections, and what is left of the unit is what comes after the first i pieces.
 use Prim.Native.Nat.{ℕ, ◌+◌, ◌*◌, ◌-◌, ◌≤◌, ◌<◌, min}
-use native.Mathlib.Decide.{dec_le}
 use native.Mathlib.Nat.{suc-mul, zero-mul}
 use native.Mathlib.Numerals.{add-one}
 use native.Mathlib.Omega.{arith}
-use mathlib.Core.Path.{◌≡◌, refl, ap, sym, ◌∙◌}
+use mathlib.Core.Path.{◌≡◌, refl, sym}
 use mathlib.Core.Bool.{Bool}
 use mathlib.Core.List.{List, [], flatten}
-use lib.ListN.{length, take, drop, length-take, drop_of_length-le}
-use lib.Seq.{drop-drop, drop-length, paste-zero, take_all, take-length}
+use lib.ListN.{length, take, drop, length-take}
+use lib.Seq.{drop-drop, paste-zero}
+use Rattle.std.proofs.lemmas.List.{drop_min, take_min}
 use Rattle.rules.specs.declared.Settings.{Settings}
 use Rattle.rules.specs.Section.{section_of}
 use Rattle.rules.specs.Send.{piece, section_at, section_count, sections, sections_to}
 use Rattle.rules.proofs.Send.{Accepted, bytes_more, bytes_to, sections_bytes}
 use Rattle.wire.specs.Puts.{Puts}
 use Rattle.wire.proofs.Puts.{puts_length, puts_then}
-
--- as much of a list as there is, up to n
-take_min : (n : ℕ) (s : List ℕ) → take (min n (length s)) s ≡ take n s
-take_min n s = go (dec_le n (length s))
-  where
-    go : Dec (n ≤ length s) → take (min n (length s)) s ≡ take n s
-    go (yes h) = let m : min n (length s) ≡ n = omega arith in rw m
-    go (no h) = let m : min n (length s) ≡ length s = omega arith in rw (m, take-length s) (sym (take_all n s (omega arith)))
-
-drop_min : (n : ℕ) (s : List ℕ) → drop (min n (length s)) s ≡ drop n s
-drop_min n s = go (dec_le n (length s))
-  where
-    go : Dec (n ≤ length s) → drop (min n (length s)) s ≡ drop n s
-    go (yes h) = let m : min n (length s) ≡ n = omega arith in rw m
-    go (no h) =
-        let m : min n (length s) ≡ length s = omega arith in
-        let l : length s ≤ n = omega arith in
-        rw (m, drop-length s) (sym (drop_of_length-le s l))
 
 module _ (c : Settings) (llc_snap : Bool) (n : ℕ) (u before : List ℕ) where
   pub record Stage (i : ℕ) (rest : List ℕ) (at : ℕ) (out : List ℕ) : Type 0 where
@@ -53,7 +35,7 @@ module _ (c : Settings) (llc_snap : Bool) (n : ℕ) (u before : List ℕ) where
     pub stage_room : {cut : List ℕ} {m : ℕ} → Accepted c llc_snap n u before → i < section_count n u → m ≡ min n (length rest)
         → cut ≡ take m rest → (length cut ≤ 4080) × (at + (length cut + 16) ≤ length out)
     stage_room {cut} {m} a h e is =
-        let size : length cut ≡ m = ap length is ∙ length-take m rest ∙ omega arith in
+        let size : length cut ≡ m = rw (is, length-take) (omega arith) in
         let placed : at + length rest ≡ length u + 16 * i = rw s.left (omega (arith, s.puts.end, bytes_to c llc_snap n u i)) in
         (omega (arith, a.most), omega (arith, placed, sections_bytes c llc_snap n u a.some, a.room, puts_length s.puts))
 
@@ -62,14 +44,11 @@ module _ (c : Settings) (llc_snap : Bool) (n : ℕ) (u before : List ℕ) where
         → Stage (i + 1) after at' out'
     unfolding section_at piece
     stage_next {cut} {after} {m} {last} {at'} {out'} e front back ending p =
-        let same : cut ≡ take n (drop (i * n) u) =
-        front ∙ ap (λ (k : ℕ). take k rest) e ∙ take_min n rest ∙ ap (take n) s.left in
+        let same : cut ≡ take n (drop (i * n) u) = rw (front, e, take_min, s.left) in
         let is : section_of c.address llc_snap i last cut ≡ section_at c llc_snap n u i = rw (same, ending) in
         let next : i * n + n ≡ (i + 1) * n = rw (add-one i) (sym (suc-mul i n)) in
         record {
-          left =
-              back ∙ ap (λ (k : ℕ). drop k rest) e ∙ drop_min n rest ∙ ap (drop n) s.left
-              ∙ drop-drop n (i * n) u ∙ ap (λ (k : ℕ). drop k u) next;
+          left = rw (back, e, drop_min, s.left, drop-drop, next);
           puts = rw (add-one i, bytes_more c llc_snap n u i, ← is) (puts_then s.puts p);
         }
 

@@ -102,6 +102,7 @@ impl Sender {
         let last = (count - 1) as u8;
         let mut rest = unit;
         let mut at = 0;
+        // Not by `chunks`, which gives no piece of an empty unit: that has one section.
         for number in 0..count {
             let (piece, after) = rest.split_at(self.size.min(rest.len()));
             at = self.put_section(number as u8, last, piece, at, out);

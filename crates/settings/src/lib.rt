@@ -22,7 +22,8 @@ fn agree(k: usize, range: usize, x: u8, y: u8) -> bool
     range < k || x == y
 }
 
-// The compared bytes of two addresses are equal: `range` of them, from MAC_address_6 upward.
+// The compared bytes of two addresses are equal: `range` of them, from MAC_address_6 upward. Not two arrays that are zipped: both addresses would
+// have to be spelled out in this order first, which is no plainer.
 #[tactic(auto, unfolding(rules::specs::Address::same_address, wire::specs::Choice::both))]
 pub fn same_address(range: usize, a: Address, b: Address) -> bool
     ensures { result ≡ same_address range a b }

@@ -19,9 +19,8 @@ abbrev pub Filled : Result ℕ Failure → List ℕ → Type 0
 Filled r b = IsPrefixLen (count_of r) b
 
 -- a call that is handed a stream and a buffer may have moved n bytes and have left b in the buffer
-module _ {S E : Type 0} (call : MutBor S → MutBor (List ℕ) → Result ℕ E → MutBor S → MutBor (List ℕ) → Type 0) where
-  abbrev pub Moved : ℕ → List ℕ → Type 0
-  Moved n b = (s : MutBor S) × (t : MutBor (List ℕ)) × (s' : MutBor S) × (t' : MutBor (List ℕ)) × call s t (Ok n) s' t' × (t'.now ≡ b)
+abbrev pub Moved : {S E : Type 0} → (MutBor S → MutBor (List ℕ) → Result ℕ E → MutBor S → MutBor (List ℕ) → Type 0) → ℕ → List ℕ → Type 0
+Moved {S} call n b = (s : MutBor S) × (t : MutBor (List ℕ)) × (s' : MutBor S) × (t' : MutBor (List ℕ)) × call s t (Ok n) s' t' × (t'.now ≡ b)
 
 -- a line in ASCII: 'input' where the input could not be read, 'output' where a write failed, 'refused' where the unit is refused
 abbrev pub word_of : Result Unit Failure → List ℕ

@@ -4,9 +4,10 @@ use native.Mathlib.Omega.{arith}
 use mathlib.Core.Path.{◌≡◌, refl, ap, ◌∙◌}
 use mathlib.Core.List.{List, [], ◌∷◌}
 use lib.ListN.{length, take, drop, length-drop}
-use lib.Seq.{take_all}
+use lib.Seq.{take_all, length-take-le}
 use Rattle.rules.specs.Recording.{offer_length, offers_within, offers}
-use Rattle.rules.proofs.Offer.{offer_some, offers_more}
+use Rattle.rules.proofs.Offer.{offer_some, offer_within, offers_more}
+use Rattle.rules.proofs.Send.{sent_all_fits}
 
 -- what is left left the first n bytes
 abbrev pub left : List ℕ → ℕ → List ℕ
@@ -25,3 +26,9 @@ pub none_left : (r : List ℕ) → length r ≡ 0 → length (offers r) ≡ 0
 unfolding offers offers_within
 none_left [] h = refl
 none_left (x ∷ r) h = absurd (omega arith)
+
+-- what counting the offers asks for
+pub ruleset counts = (one_less, shorter, none_left, offer_within)
+
+-- what is sent is at the output's start
+pub ruleset sends = (sent_all_fits, length-take-le)

@@ -6,7 +6,6 @@ ghost use Rattle.std.specs.Prelude.{◌≡◌, ◌<◌, length};
 ghost use Rattle.rules.specs.Recording.{offers};
 ghost use Rattle.vectors.specs.Text.{digit, word};
 
-use rules::Sending;
 use std::{array, io};
 
 // Not `{:08X}`: specs/Text.antt says what this text is, and no contract says what `print!` writes.
@@ -47,7 +46,7 @@ fn crc_line(rt: &impl Print, name: &str, bytes: &[u8]) -> io::Result<()> {
 }
 
 // How many offers a recording has.
-#[tactic(auto, using(crate::proofs::Count::one_less, crate::proofs::Count::shorter, crate::proofs::Count::none_left, rules::proofs::Offer::offer_within))]
+#[tactic(auto, using(crate::proofs::Count::counts))]
 fn offer_count(s: &[u8]) -> usize
     ensures { result ≡ length (offers s.now) }
 {
@@ -62,6 +61,7 @@ fn offer_count(s: &[u8]) -> usize
 }
 
 // A line of the sender: unit length, piece size, number of sections, their length in all.
+#[tactic(auto, unfolding(rules::specs::Told::sending_told), using(crate::proofs::Count::sends))]
 fn send_line(
     rt: &impl Print,
     llc_snap: bool,
@@ -69,7 +69,7 @@ fn send_line(
     unit: &[u8],
     out: &mut [u8],
 ) -> io::Result<()> {
-    let Sending::Sent(total) = sender::send(
+    let Ok(total) = sender::send(
         recording::listing_settings(),
         llc_snap,
         size,

@@ -1,14 +1,8 @@
 -- A number's bytes, written and read, are the number, and bytes side by side are bytes.
-use Prim.Native.Nat.{ℕ, zero, suc, ◌+◌, ◌*◌, ◌/◌, ◌%◌, ◌^◌, ◌≤◌, ◌<◌}
-use native.Mathlib.Nat.{mod-eq_of_lt, mod-lt, mod-one, mul_assoc, mul-add-div_right, mul-add-mod_self_right, one-le-pow, pow-succ'}
-use native.Mathlib.Numerals.{add-one}
-use native.Mathlib.Omega.{arith}
-use mathlib.Core.Path.{◌≡◌, refl, sym, ap, ap₂, ◌∙◌}
-use mathlib.Core.List.{List, [], ◌∷◌, ◌++◌}
-use lib.Arith.{digits_div, digits_lt, mod-mul}
-use lib.Dec.{lit<}
-use lib.ListN.{length, take, drop, length-append}
-use lib.Seq.{append_snoc, drop-cons, get_or-append_seam}
+use Rattle.std.proofs.Math.Nat.{mod-one, mul-add-div_right, mul-add-mod_self_right, one-le-pow, pow-succ'}
+use Rattle.std.proofs.Math.Arith.{digits_div, digits_lt, mod-mul}
+use Rattle.std.proofs.Math.Seq.{append_snoc, get_or-append_seam}
+use Rattle.std.proofs.Common.{ℕ, zero, suc, ◌+◌, ◌*◌, ◌/◌, ◌%◌, ◌^◌, ◌≤◌, ◌<◌, mod-eq_of_lt, mod-lt, mul_assoc, add-one, arith, ◌≡◌, refl, sym, ap, ap₂, ◌∙◌, List, [], ◌∷◌, ◌++◌, lit<, length, take, drop, length-append, drop-cons}
 use Rattle.wire.specs.Bytes.{Bytes, byte_at, number_at, bytes_of}
 
 pub length_bytes_of : (n x : ℕ) → length (bytes_of n x) ≡ n

@@ -1,17 +1,8 @@
 -- A test decides a choice: each law puts the test's value in its place, and the choice computes.
-use Prim.Native.Nat.{ℕ, ◌<◌}
-use mathlib.Core.Path.{◌≡◌, refl, sym, ◌∙◌}
-use mathlib.Core.List.{List, [], ◌∷◌, ◌++◌}
-use mathlib.Core.Bool.{Bool, true, false, not}
-use lib.Dec.{eqb}
-use borrow.Author.Tests.{eq-eqb}
-use native.Mathlib.Decide.{ℕ_discrete}
-use native.Mathlib.Omega.{arith}
+use Rattle.std.proofs.Math.Decide.{ℕ_discrete}
+pub use Rattle.std.proofs.lemmas.Bool.{false≢true as never}
+use Rattle.std.proofs.Common.{ℕ, ◌<◌, ◌≡◌, refl, sym, ◌∙◌, List, [], ◌∷◌, ◌++◌, Bool, true, false, not, eqb, eq-eqb, arith}
 use Rattle.wire.specs.Choice.{pick, both, either, Line, first, first_of, without}
-
--- no test is both
-pub never : false ≡ true → ⊥
-never e = let z : ◌≡◌ {A = ℕ} 0 1 = cc in omega arith
 
 pub yes_pick : {A : Type 0} {t : Bool} {m : A} (a b : A) → t ≡ true → m ≡ a → m ≡ pick t a b
 unfolding pick
@@ -25,21 +16,9 @@ pub yes_both : {t m : Bool} (u : Bool) → t ≡ true → m ≡ u → m ≡ both
 unfolding both
 yes_both u e h = rw e h
 
-pub not_both : {t : Bool} (u : Bool) → t ≡ false → false ≡ both t u
-unfolding both
-not_both u e = rw e
-
-pub yes_either : {t : Bool} (u : Bool) → t ≡ true → true ≡ either t u
-unfolding either
-yes_either u e = rw e
-
 pub not_either : {t m : Bool} (u : Bool) → t ≡ false → m ≡ u → m ≡ either t u
 unfolding either
 not_either u e h = rw e h
-
-pub yes_first : {t : Bool} (n rest : ℕ) → t ≡ true → n ≡ first t n rest
-unfolding first
-yes_first n rest e = rw e
 
 pub not_first : {t : Bool} {m : ℕ} (n rest : ℕ) → t ≡ false → m ≡ rest → m ≡ first t n rest
 unfolding first

@@ -1,57 +1,39 @@
 -- A table of tests gives the number of the first row that applies, where each test holds exactly where its row's meaning does.
-use Prim.Native.Nat.{ℕ, ◌<◌, ◌≤◌}
-use mathlib.Core.Path.{◌≡◌, refl, sym, ap, ◌∙◌}
-use mathlib.Core.Logic.{◌↔◌, ◌⊎◌, inl, inr}
-use mathlib.Core.List.{List, [], ◌∷◌}
-use mathlib.Core.Bool.{Bool, true, false, not}
-use lib.Dec.{eqb, leb, ltb}
-use borrow.Author.Tests.{eq-eqb, eqb-true, le-leb, leb-true, leb-false, lt-leb, lt-ltb, ltb-true, not-true}
+use Rattle.std.proofs.lemmas.Bool.{false≢true, lt-leb, not-true}
+use Rattle.std.proofs.Common.{Decides, ℕ, ◌≤◌, ◌≡◌, refl, sym, ap, ◌∙◌, ◌↔◌, ◌⊎◌, inl, inr, List, [], ◌∷◌, Bool, true, false, not, eqb, leb, le-leb, leb-true, leb-false}
 use Rattle.wire.specs.Choice.{pick, both, either, Line, first, first_of, without}
 use Rattle.wire.specs.Meaning.{FirstThat, Outside, Row, ◌means◌}
-use Rattle.wire.proofs.Choice.{both_true, never}
+use Rattle.wire.proofs.Choice.{both_true}
 
 -- ---- a test and its meaning
-abbrev pub Tells : Bool → Type 0 → Type 0
-Tells t p = (t ≡ true) ↔ p
-
-pub tells_lt : (a b : ℕ) → Tells (ltb a b) (a < b)
-tells_lt a b = (ltb-true a b, lt-ltb a b)
-
-pub tells_le : (a b : ℕ) → Tells (leb a b) (a ≤ b)
+pub tells_le : (a b : ℕ) → Decides (leb a b) (a ≤ b)
 tells_le a b = (leb-true a b, le-leb a b)
 
-pub tells_eq : (a b : ℕ) → Tells (eqb a b) (a ≡ b)
-tells_eq a b = (eqb-true a b, eq-eqb a b)
-
-pub tells_not : {p : Type 0} (t : Bool) → Tells t p → Tells (not t) (p → ⊥)
-tells_not true h = (λ e. absurd (never e), λ n. absurd (n (h.0 refl)))
-tells_not false h = (λ e p. never (h.1 p), λ n. refl)
-
-pub tells_both : {p q : Type 0} (t u : Bool) → Tells t p → Tells u q → Tells (both t u) (p × q)
+pub tells_both : {p q : Type 0} (t u : Bool) → Decides t p → Decides u q → Decides (both t u) (p × q)
 unfolding both
 tells_both true u h k = (λ e. (h.0 refl, k.0 e), λ w. k.1 w.1)
-tells_both false u h k = (λ e. absurd (never e), λ w. h.1 w.0)
+tells_both false u h k = (λ e. absurd (false≢true e), λ w. h.1 w.0)
 
-pub tells_either : {p q : Type 0} (t u : Bool) → Tells t p → Tells u q → Tells (either t u) (p ⊎ q)
+pub tells_either : {p q : Type 0} (t u : Bool) → Decides t p → Decides u q → Decides (either t u) (p ⊎ q)
 unfolding either
 tells_either true u h k = (λ e. inl (h.0 refl), λ w. refl)
 tells_either {p} {q} false u h k = (λ e. inr (k.0 e), go)
   where
     go : p ⊎ q → u ≡ true
-    go (inl x) = absurd (never (h.1 x))
+    go (inl x) = absurd (false≢true (h.1 x))
     go (inr y) = k.1 y
 
 -- not in least..most
-pub tells_outside : (least most x : ℕ) → Tells (not (both (leb least x) (leb x most))) (Outside least most x)
+pub tells_outside : (least most x : ℕ) → Decides (not (both (leb least x) (leb x most))) (Outside least most x)
 unfolding both
 tells_outside least most x = go (leb least x) (leb x most) refl refl
   where
-    go : (t u : Bool) → leb least x ≡ t → leb x most ≡ u → Tells (not (both t u)) (Outside least most x)
-    go true true e f = (λ z. absurd (never z), λ w. absurd (in_range w))
+    go : (t u : Bool) → leb least x ≡ t → leb x most ≡ u → Decides (not (both t u)) (Outside least most x)
+    go true true e f = (λ z. absurd (false≢true z), λ w. absurd (in_range w))
       where
         in_range : Outside least most x → ⊥
-        in_range (inl l) = never (sym (lt-leb least x l) ∙ e)
-        in_range (inr m) = never (sym (lt-leb x most m) ∙ f)
+        in_range (inl l) = false≢true (sym (lt-leb least x l) ∙ e)
+        in_range (inr m) = false≢true (sym (lt-leb x most m) ∙ f)
     go true false e f = (λ z. inr (leb-false x most f), λ w. refl)
     go false u e f = (λ z. inl (leb-false least x e), λ w. refl)
 
@@ -81,7 +63,7 @@ or_else_is (l ∷ rest) m h =
 pub record Gives (m : ℕ) (rows : List Row) : Type 0 where
   pub exactly : (n : ℕ) → (m ≡ n) ↔ FirstThat n rows
 
-pub gives_row : {p : Type 0} {m : ℕ} {rows : List Row} (t : Bool) (k : ℕ) → Tells t p → (t ≡ false → Gives m rows)
+pub gives_row : {p : Type 0} {m : ℕ} {rows : List Row} (t : Bool) (k : ℕ) → Decides t p → (t ≡ false → Gives m rows)
     → Gives (first t k m) (k means p ∷ rows)
 unfolding first FirstThat
 gives_row {p} {m} {rows} true k h g = record { exactly = λ n. (λ e. inl (sym e, h.0 refl), go n) }
@@ -89,10 +71,10 @@ gives_row {p} {m} {rows} true k h g = record { exactly = λ n. (λ e. inl (sym e
     go : (n : ℕ) → ((n ≡ k) × p) ⊎ ((p → ⊥) × FirstThat n rows) → k ≡ n
     go n (inl w) = sym w.0
     go n (inr w) = absurd (w.0 (h.0 refl))
-gives_row {p} {m} {rows} false k h g = record { exactly = λ n. (λ e. inr (λ x. never (h.1 x), ((g refl).exactly n).0 e), go n) }
+gives_row {p} {m} {rows} false k h g = record { exactly = λ n. (λ e. inr (λ x. false≢true (h.1 x), ((g refl).exactly n).0 e), go n) }
   where
     go : (n : ℕ) → ((n ≡ k) × p) ⊎ ((p → ⊥) × FirstThat n rows) → m ≡ n
-    go n (inl w) = absurd (never (h.1 w.1))
+    go n (inl w) = absurd (false≢true (h.1 w.1))
     go n (inr w) = ((g refl).exactly n).1 w.1
 
 pub gives_last : {p : Type 0} (k : ℕ) → p → Gives k (k means p ∷ [])

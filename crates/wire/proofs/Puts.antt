@@ -1,34 +1,9 @@
 -- What is put where the last put ended stands after it, so puts in a row are one put of all their bytes.
-use Prim.Native.Nat.{ℕ, suc, ◌+◌, ◌-◌, ◌≤◌}
-use native.Mathlib.Decide.{dec_le}
-use native.Mathlib.Nat.{le_refl}
-use native.Mathlib.Numerals.{add-one}
-use native.Mathlib.Omega.{arith}
-use mathlib.Core.Path.{◌≡◌, refl, sym, ap, ◌∙◌}
-use mathlib.Core.List.{List, [], ◌∷◌, ◌++◌, append_assoc, append-nil}
-use lib.ListN.{length, set, take, drop, length-append, length-drop, drop_of_length-le}
-use lib.Seq.{drop_at, drop-drop, drop-paste, length-paste, length-take-le, set_split, take_all, take_at, take-length, take-paste}
-use Rattle.wire.specs.Bytes.{over}
+use Rattle.std.proofs.Math.Decide.{dec_le}
+use Rattle.std.proofs.Math.Seq.{take-length}
+use Rattle.std.proofs.lemmas.List.Edits.{drop-paste, length-paste, take-paste}
+use Rattle.std.proofs.Common.{ℕ, ◌+◌, ◌-◌, ◌≤◌, le_refl, arith, ◌≡◌, refl, sym, ap, ◌∙◌, List, ◌++◌, append_assoc, length, take, drop, length-append, drop_at, drop-drop, length-take-le, take_at}
 use Rattle.wire.specs.Puts.{Puts, PutsIfRoom}
-
--- one byte
-pub puts_one : (b : List ℕ) (at x : ℕ) → at + 1 ≤ length b → Puts b at (x ∷ []) (at + 1) (set b at x)
-puts_one b at x h =
-    record {
-      room = h;
-      end = refl;
-      bytes = rw (add-one at) (set_split b at x (omega arith) ∙ sym (append_assoc (take at b) (x ∷ []) (drop (suc at) b)));
-    }
-
--- the part of the buffer from `at` on is lent to a copy, and comes back
-pub puts_part : (s b ys : List ℕ) (at : ℕ) → at + length s ≤ length b → ys ≡ over s (take (length b - at) (drop at b))
-    → Puts b at s (at + length s) (take at b ++ (ys ++ drop (length b - at) (drop at b)))
-puts_part s b ys at h e =
-    let size : length (drop at b) ≡ length b - at = length-drop at b in
-    let all : take (length b - at) (drop at b) ≡ drop at b = take_all (length b - at) (drop at b) (omega arith) in
-    let none : drop (length b - at) (drop at b) ≡ [] = drop_of_length-le (drop at b) {i = length b - at} (omega arith) in
-    let fits : take (length (drop at b)) s ≡ s = take_all (length (drop at b)) s (omega arith) in
-    record { room = h; end = refl; bytes = rw (e, all, none, fits, drop-drop, append-nil, take-length s, append_assoc) }
 
 module _ {b s b' : List ℕ} {at r : ℕ} (p : Puts b at s r b') where
   inside : at ≤ length b

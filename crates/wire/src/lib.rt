@@ -20,14 +20,14 @@ fn from(s: &[u8], i: usize) -> &[u8]
     s.get(i..).unwrap_or(&[])
 }
 
-// The number of two bytes at i. This and the next stay two: `from_be_bytes` is each type's own, and one function of any length would have
-// to require that the number fits.
+// The number of two bytes at i. `u16::from_be_bytes` was tried, and misses a speed: an INT section of empty pairs takes 4.7 ns a byte with
+// it, and 3.7 so. This and the next stay two: one of any length would have to require that the number fits.
 #[tactic(auto, unfolding(crate::specs::Bytes::number_at))]
 pub fn u16_at(s: &[u8], i: usize) -> usize
     ensures { Reads (number_at 2 s.now i) 65536 result }
 {
     let rest = from(s, i);
-    u16::from_be_bytes([byte_at(rest, 0), byte_at(rest, 1)]) as usize
+    byte_at(rest, 0) as usize * 256 + byte_at(rest, 1) as usize
 }
 
 // The number of four bytes at i.

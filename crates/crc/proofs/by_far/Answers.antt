@@ -1,5 +1,5 @@
 -- `crc::by_far` meets its contract: each turn takes two words away by the far multiple, and the near one does the rest.
-use mathlib.Core.Path.{◌≡◌, refl, ap, ◌∙◌}
+use mathlib.Core.Path.{◌≡◌, refl, ap}
 use mathlib.Core.List.{[], ◌∷◌}
 use Prim.Native.Nat.{◌-◌, ◌≤◌}
 use native.Mathlib.Omega.{arith}
@@ -28,6 +28,3 @@ loop-rest-preserved c =
     (turn far far_leaves l.v (l.z1 ∷ l.z2 ∷ l.z3 ∷ l.z4 ∷ []) _ s l.invariant (omega (arith, enough))
     (omega (arith, enough)) refl c.next-w1.ensures)
     (omega (arith, left)) left refl c.next-w2.ensures
-
-pub returns : goal.returns
-returns c = c.by_near.ensures ∙ c.loop-rest.invariant.2

@@ -1,21 +1,19 @@
 -- The first pair that answers is the same from here as from the start; what is left of a loop or a descriptor covers as all of it does.
 use Rattle.notification.specs.Readers.{Turns, pairs_from, answers_by}
-use Rattle.notification_rules.specs.Target.{covers, hit, first_pair}
+use Rattle.notification_rules.specs.Target.{covers, entry_bytes, hit, first_pair}
 use Rattle.notification_rules.specs.Loop.{descriptor_items}
 use Rattle.notification_rules.specs.Cut.{cut_of, any}
+use Rattle.std.specs.Slice.Iter.{chunks_exact_rest, chunks_exact_size}
 use lib.ListN.{length}
 use mathlib.Core.Path.{◌≡◌}
 use Prim.Native.Nat.{◌-◌}
 use Rattle.notification.proofs.search.Given as goal
 
--- what holds of each loop, and what falls: Ia and μa of the addresses, Id and μd of the descriptors, Ip and μp of the pairs
+-- what holds of each loop, and what falls: of the addresses, of the descriptors and of the pairs
 abbrev pub invariant-addresses : goal.invariant-addresses
-invariant-addresses l = any
-    (hit l.device l.descriptor) (cut_of (λ _. l.step) l.addresses).items
-    ≡ any (hit l.device l.descriptor) (cut_of (λ _. l.step) l.initial.addresses).items
-
-abbrev pub decreases-addresses : goal.decreases-addresses
-decreases-addresses l = length l.addresses
+invariant-addresses l = (chunks_exact_size l.entry-iterator ≡ l.step) × (any
+    (hit l.device l.descriptor) (cut_of (λ _. l.step) (chunks_exact_rest l.entry-iterator)).items
+    ≡ any (hit l.device l.descriptor) (cut_of (λ _. l.step) (entry_bytes l.descriptor)).items)
 
 abbrev pub invariant-descriptors : goal.invariant-descriptors
 invariant-descriptors l = any (covers l.device) (descriptor_items l.rest)

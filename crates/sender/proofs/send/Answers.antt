@@ -1,5 +1,4 @@
 -- The outcome is the one that was decided.
-use mathlib.Core.Path.{◌∙◌}
 use Rattle.std.proofs.lemmas.Result.{err_from_is_err_and}
 use Rattle.sender.proofs.Sent.{refused, sent}
 use Rattle.sender.proofs.send.Goals as goal
