@@ -1,4 +1,4 @@
-mod Move
 mod Owed
+mod Read
 mod Text
 mod Turns

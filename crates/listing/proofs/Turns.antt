@@ -13,7 +13,7 @@ use Rattle.listing.specs.Walk.{is_unreadable, Left, Gave, Offered, written, owed
 use Rattle.listing.specs.Turns.{Turns, begun, turned, Walked, Ended, Listed, Fresh, failure_of}
 use Rattle.listing.proofs.Owed.{left_stays, same_offered, gave_owed, owed_waits, owed_end}
 
-pub turns_owed : {c : Settings} {w : Walk} {k : ℕ} {read text : List ℕ} {r : Walk} → Turns c w k read text r
+pub turns_owed : {c : Settings} {w : Walk} {k : ℕ} {read text : List ℕ} {r : Walk} {q : Result Unit Failure} → Turns c w k read text r q
     → (rest : List ℕ) → Left r.input rest → owed c w (read ++ rest) ≡ text ++ owed c r rest
 turns_owed begun rest l = refl
 turns_owed {c = c} {w = w} (turned {read = read} {text = text} {r = r} before t) rest l =
@@ -23,18 +23,17 @@ turns_owed {c = c} {w = w} (turned {read = read} {text = text} {r = r} before t)
     ∙ sym (append_assoc text (written r) _)
 
 -- no turn is made yet
-pub walked_none : {c : Settings} {w : Walk} → Walked c w (2 ^ 64 - 1) w
-walked_none = record { read = []; text = []; turns = begun }
+pub walked_none : {c : Settings} {w : Walk} → Walked c w (2 ^ 64 - 1) (Ok tt) w
+walked_none = record { read = []; text = []; turns = begun; told = tt }
 
 -- one turn more
-pub walked_more : {c : Settings} {w r r' : Walk} {q : Result Unit Failure} {k j : ℕ} → k ≡ j + 1 → Walked c w k r → Turned c r q r' → Walked c w j r'
-walked_more e a t = record { read = _; text = _; turns = turned (rw e at a.turns) t }
+pub walked_more : {c : Settings} {w r r' : Walk} {q : Result Unit Failure} {k j : ℕ} → k ≡ j + 1 → Walked c w k (Ok tt) r → Turned c r q r'
+    → Walked c w j q r'
+walked_more e a t = record { read = _; text = _; turns = turned (rw e at a.turns) t; told = t.told }
 
 -- a write failed
-pub ended_failed : {c : Settings} {w r r' : Walk} {p q : Result Unit Failure} {k : ℕ} → Walked c w k r' → Turned c r p r' → is_err p ≡ true
-    → q ≡ p → Ended c w q r'
-ended_failed a t f e =
-    record { left = _; walked = a; ends = inr (inl (rw e f)); told = rw e t.told }
+pub ended_failed : {c : Settings} {w r : Walk} {p q : Result Unit Failure} {k : ℕ} → Walked c w k p r → is_err p ≡ true → q ≡ p → Ended c w q r
+ended_failed {k = k} a f e = record { left = k; walked = rw e a; ends = inr (inl (rw e f)) }
 
 -- all is offered: nothing is left
 left_nothing : (w : Window) → Offered w → Left w []
@@ -86,7 +85,7 @@ module _
       go (inr (inl f)) = absurd (told r q n (rw (k f) f))
       go (inr (inr z)) = inr z
 
-  live : {k : ℕ} {read text : List ℕ} {w : Walk} → Turns listing_settings s k read text w → Waits w
+  live : {k : ℕ} {read text : List ℕ} {w : Walk} {x : Result Unit Failure} → Turns listing_settings s k read text w x → Waits w
       → (rest : List ℕ) → Left w.input rest
       → listing (read ++ rest) ≡ text ++ lines_of listing_settings w.offset w.state w.unit (offers rest)
   live {read = read} {text = text} {w = w} turns waits rest l =

@@ -9,24 +9,25 @@ use Rattle.listing.specs.Lines.{lines_of, listing}
 use Rattle.listing.specs.Walk.{has_ended, is_unreadable, Left, Offered, Gave, written, owed, Waits, Turned}
 use Rattle.listing.specs.declared.Walk.{Walk}
 
--- turns from w to r, with so many left of 2^64 - 1: they offer the bytes `read` of the recording and give their writes `text`, joined
-pub data Turns (c : Settings) (w : Walk) : ℕ → List ℕ → List ℕ → Walk → Type 0 where
-  begun : Turns c w (2 ^ 64 - 1) [] [] w
-  turned : {k : ℕ} {read text : List ℕ} {r r' : Walk} {q : Result Unit Failure} → Turns c w (k + 1) read text r → (t : Turned c r q r')
-      → Turns c w k (read ++ t.took) (text ++ written r) r'
+-- turns from w to r, with so many left of 2^64 - 1, of which the last answered q: they offer the bytes `read` of the recording and give their
+-- writes `text`, joined; no turn follows one that failed
+pub data Turns (c : Settings) (w : Walk) : ℕ → List ℕ → List ℕ → Walk → Result Unit Failure → Type 0 where
+  begun : Turns c w (2 ^ 64 - 1) [] [] w (Ok tt)
+  turned : {k : ℕ} {read text : List ℕ} {r r' : Walk} {q : Result Unit Failure} → Turns c w (k + 1) read text r (Ok tt)
+      → (t : Turned c r q r') → Turns c w k (read ++ t.took) (text ++ written r) r' q
 
 -- where the turns have come to, with k left
-pub record Walked (c : Settings) (w : Walk) (k : ℕ) (r : Walk) : Type 0 where
+pub record Walked (c : Settings) (w : Walk) (k : ℕ) (q : Result Unit Failure) (r : Walk) : Type 0 where
   pub read : List ℕ
   pub text : List ℕ
-  pub turns : Turns c w k read text r
+  pub turns : Turns c w k read text r q
+  pub told : IsOkUnless q Writing
 
 -- they end where all is offered, where a write failed, or with no turn left
 pub record Ended (c : Settings) (w : Walk) (q : Result Unit Failure) (r : Walk) : Type 0 where
   pub left : ℕ
-  pub walked : Walked c w left r
+  pub walked : Walked c w left q r
   pub ends : Offered r.input ⊎ ((is_err q ≡ true) ⊎ (left ≡ 0))
-  pub told : IsOkUnless q Writing
 
 -- the input has not ended, by a read that failed or without
 abbrev pub Fresh : Walk → Type 0
@@ -52,6 +53,6 @@ pub record Listed (start : Walk) (q : Result Unit Failure) (r : Walk) : Type 0 w
       → listing (ended.walked.read ++ rest) ≡ (ended.walked.text ++ final) ++ owed listing_settings r rest
   pub whole : Offered r.input → listing ended.walked.read ≡ ended.walked.text ++ final
   pub silent : failure_of r q ≡ Ok tt → Offered r.input ⊎ (ended.left ≡ 0)
-  pub live : {k : ℕ} {read text : List ℕ} {w : Walk} → Turns listing_settings start k read text w → Waits w
+  pub live : {k : ℕ} {read text : List ℕ} {w : Walk} {p : Result Unit Failure} → Turns listing_settings start k read text w p → Waits w
       → (rest : List ℕ) → Left w.input rest
       → listing (read ++ rest) ≡ text ++ lines_of listing_settings w.offset w.state w.unit (offers rest)

@@ -8,4 +8,4 @@ returns g c =
     let a = rw c.listing_settings.ensures at c.walk_on-walked.ensures in
     listed c.requires.fresh c.requires.owes a c.flush-last.ensures.gave
     (λ e. c.and.ensures ∙ joined _ _ e)
-    (rw c.and.ensures (joined_told _ _ a.told c.flush-last.ensures.failed))
+    (rw c.and.ensures (joined_told _ _ a.walked.told c.flush-last.ensures.failed))

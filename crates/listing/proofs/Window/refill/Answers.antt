@@ -1,6 +1,6 @@
--- A move and a read leave the bytes at hand the same.
+-- A read leaves the bytes at hand the same; so does a move, as the check finds.
 use Rattle.std.proofs.Common.{refl}
-use Rattle.listing.proofs.Move.{kept_read}
+use Rattle.listing.proofs.Read.{kept_read}
 use Rattle.listing.proofs.Window.refill.Goals as goal
 
 pub returns : goal.returns

@@ -1,4 +1,4 @@
--- A move to the start of a buffer leaves the bytes at hand the same, and so does a read after them.
+-- A read after the bytes at hand leaves them the same.
 use Rattle.std.proofs.Common.{◌≡◌, ℕ, Result, ◌+◌, ◌-◌, ◌≤◌, Bool, true, false, List, ◌++◌, length, take, drop, sym, refl, ap, ◌∙◌, arith, length-drop, take-append-drop, length-take-le, take-take, eqb-true}
 use lib.Seq.{take-append-le, drop-append-le}
 use Rattle.wire.specs.Choice.{either}
@@ -22,7 +22,7 @@ hand_read b ys s e h k =
     ∙ ap (λ (l : List ℕ). take (e - s) (drop s l)) (take-append-drop e b)
 
 -- what was known to have failed before stays so
-pub still : (t : Bool) {u : Bool} → u ≡ true → either t u ≡ true
+still : (t : Bool) {u : Bool} → u ≡ true → either t u ≡ true
 unfolding either
 still true e = refl
 still false e = e
@@ -49,8 +49,3 @@ kept_read {got = got} {v = v} {r = r} w ys o q x y t k =
       ended = λ z. omega (arith, eqb-true n 0 (sym k.ended ∙ z), f, g);
       unreadable = λ z. k.unreadable ∙ still _ (rw t z);
     }
-
-pub read_within : (b : List ℕ) (e n : ℕ) → e ≤ length b → n ≤ length (take (length b - e) (drop e b)) → e + n ≤ length b
-read_within b e n h k =
-    let p : List ℕ = drop e b in
-    omega (arith, k, length-take-le (length b - e) p (omega (arith, length-drop e b)), length-drop e b)
