@@ -10,7 +10,7 @@ ghost use Rattle.std.specs.Prelude.{◌≡◌, ◌+◌, ◌≤◌, Ok, length, d
 ghost use Rattle.wire.specs.Choice.{first_of};
 ghost use Rattle.rules.specs.Told.{refusal_number};
 ghost use Rattle.notification_rules.specs.Loop.{loop_size};
-ghost use Rattle.notification_rules.specs.Finding.{notification_form, other_action, wrong_hash, platform_lines, loop_lines, refusal, finding_of};
+ghost use Rattle.notification_rules.specs.Finding.{other_action, wrong_hash, platform_lines, loop_lines, refusal, finding_of};
 ghost use Rattle.notification_rules.specs.Told.{finding_told, Answered};
 ghost use Rattle.notification.specs.Readers.{Holds, Turns, StopsAt, Tells, Locates, told_at};
 
@@ -21,15 +21,12 @@ use section_fields::checked;
 use target::{entry_bytes, entry_size, hit};
 use wire::byte_at;
 
-fn notification_form() -> Form
-    ensures { result ≡ notification_form }
-{
-    Form {
-        fewest: 18,
-        table: 0x4c,
-        private: false,
-    }
-}
+// The form of this table's sections; private_indicator is not looked at.
+const NOTIFICATION: Form = Form {
+    fewest: 18,
+    table: 0x4c,
+    private: false,
+};
 
 #[tactic(auto, unfolding(notification_rules::specs::Finding::other_action, notification_rules::specs::Loop::action_type))]
 fn other_action(s: &[u8]) -> bool
@@ -75,7 +72,7 @@ fn loops_refusal(s: &[u8]) -> Result<(), Refusal>
 fn refusal(s: &[u8]) -> Result<(), Refusal>
     ensures { refusal_number result ≡ refusal s.now }
 {
-    section_check::shared_refusal(notification_form(), s)?;
+    section_check::shared_refusal(NOTIFICATION, s)?;
     platform_refusal(s)?;
     loops_refusal(s)
 }
