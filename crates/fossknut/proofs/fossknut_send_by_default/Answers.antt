@@ -1,8 +1,0 @@
--- The wrapped function gives the outcome, and its number and length are read off it.
-use Rattle.fossknut.proofs.Told.{send_told}
-use Rattle.fossknut.proofs.fossknut_send_by_default.Goals as goal
-
-pub returns : goal.returns
-returns c =
-    send_told (rw c.settings_of-settings.ensures at c.send_by_default-sending.ensures)
-    c.sending_number.ensures c.sending_length.ensures
