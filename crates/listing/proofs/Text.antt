@@ -19,7 +19,8 @@ within_more k n h = rw (le-ltb n 10 h)
 pub decimal_printed : (n : ℕ) → n < 2 ^ 64 → decimal n ≡ printed n
 unfolding decimal
 decimal_printed n h =
-    decimal_from_appends decimal_within (record { one = within_last; more = within_more }) 20 n h (length-decimal-le 20 n (omega arith) (omega arith) h)
+    decimal_from_appends decimal_within (record { one = within_last; more = within_more }) 20 n h
+    (length-decimal-le 20 n (omega arith) (omega arith) h)
 
 -- ---- a line put field by field
 pub put_field : (b : List ℕ) {digits : List ℕ} (n mark : ℕ) → n < 2 ^ 64 → digits ≡ printed n → (b ++ digits) ++ (mark ∷ []) ≡ b ++ field n mark
