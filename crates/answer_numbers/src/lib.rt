@@ -1,4 +1,4 @@
-// The paper's numbers of the receiver's and the sender's answers, and the length that goes with each.
+// The paper's numbers of the receiver's and the sender's answers, and the length that goes with each, for callers such as C that have no enums.
 #![tactic(auto)]
 
 ghost use Rattle.std.specs.Prelude.{◌≡◌};

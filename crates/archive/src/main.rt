@@ -19,7 +19,7 @@ enum NotSent {
     Refused(Refusal),
 }
 
-// Standard input to its end, or as much as the buffer has room for.
+// Standard input to its end, or as much as the buffer has room for: a `while`, since each read goes on after the bytes that the last one gave.
 fn read_input(rt: &(impl std::io::Input + Clock), buffer: &mut [u8]) -> Result<usize, Failure>
     ensures filled { Filled result buffer.new }
     ensures failed { IsOkUnless result Reading }

@@ -163,10 +163,10 @@ fn fill_from(state: State, s: &[u8]) -> Option<usize>
     if section_number(s) == 0 {
         return Some(0);
     }
-    match state {
-        State::Open { next, filled, key } if continues(next, key, s) => Some(filled),
-        _ => None,
-    }
+    let State::Open { next, filled, key } = state else {
+        return None;
+    };
+    continues(next, key, s).then_some(filled)
 }
 
 // The table of document 01 in its order: 10 and 11, 12 to 19 and 24, 2, 20 and 21, 22, 23, 25, and 0 or 1 where nothing refuses.

@@ -85,7 +85,7 @@ fn write_some(clock: &impl Clock, output: &mut impl Write, text: &[u8]) -> Resul
     retry(clock, output, &mut [], |output, _| output.write(text)).ok_or(Failure::Writing)
 }
 
-// Writes all of the text, each write after the bytes that the last one took. An empty text cannot fail.
+// Writes all of the text: a `while`, since each write goes on after the bytes that the last one took. An empty text cannot fail.
 pub fn write_whole(clock: &impl Clock, output: &mut impl Write, text: &[u8]) -> Result<(), Failure>
     ensures empty { length text.now ≡ 0 → result ≡ Ok tt }
     ensures failed { IsOkUnless result Writing }
