@@ -1,7 +1,7 @@
 -- What the turns give to their writes, joined, and what is owed after them are what was owed at the start.
 use Rattle.std.specs.Result.{result_and}
 use Rattle.std.proofs.lemmas.Result.{err_from_is_err_and}
-use Rattle.std.proofs.Common.{◌≡◌, ◌↔◌, ℕ, Result, Ok, Err, is_err, IsOkUnless, IsErrAnd, ◌<◌, ◌+◌, ◌-◌, ◌^◌, Bool, true, false, ◌⊎◌, List, [], ◌++◌, sym, refl, ap, ◌∙◌, inl, inr, true≢false, append_assoc, append-nil, arith}
+use Rattle.std.proofs.Common.{◌≡◌, ℕ, Result, Ok, Err, is_err, IsOkUnless, IsErrAnd, ◌<◌, ◌+◌, ◌-◌, ◌^◌, Bool, true, false, ◌⊎◌, List, [], ◌++◌, sym, refl, ap, ◌∙◌, inl, inr, true≢false, append_assoc, append-nil, arith}
 use Rattle.wire.specs.Choice.{pick}
 use Rattle.stream.specs.declared.Failure.{Failure}
 use Rattle.stream.specs.declared.Failure.TheVariants.{Reading, Writing}
@@ -57,11 +57,11 @@ left_nothing w a =
     record { front = rw z; all = λ t. omega arith }
 
 -- the answer of two in a row: a failure of the first stays
-pub joined : (p q : Result Unit Failure) → is_err p ≡ true → result_and p q ≡ p
+joined : (p q : Result Unit Failure) → is_err p ≡ true → result_and p q ≡ p
 joined (Ok v) q e = absurd (true≢false (sym e))
 joined (Err x) q e = refl
 
-pub joined_told : (p q : Result Unit Failure) → IsOkUnless p Writing → IsOkUnless q Writing → IsOkUnless (result_and p q) Writing
+joined_told : (p q : Result Unit Failure) → IsOkUnless p Writing → IsOkUnless q Writing → IsOkUnless (result_and p q) Writing
 joined_told (Ok v) q e f = f
 joined_told (Err x) q e f = e
 
@@ -108,8 +108,8 @@ module _
       ∙ turns_owed turns rest l
       ∙ ap (λ (x : List ℕ). text ++ x) (owed_waits listing_settings w rest waits)
 
-  pub listed : Listed s q r
-  listed =
+  whole_list : Listed s q r
+  whole_list =
       record {
         fresh = fresh;
         end = e;
@@ -124,3 +124,11 @@ module _
         silent = silent;
         live = live;
       }
+
+-- the turns from a fresh start to an end, and a write of what their last lines leave
+pub listed : {c : Settings} {final : List ℕ} {s e r : Walk} {p q : Result Unit Failure} (t : Result Unit Failure) → c ≡ listing_settings
+    → Fresh s → ((recording : List ℕ) → owed listing_settings s recording ≡ listing recording) → Ended c s p e → Gave e final r
+    → IsOkUnless t Writing → q ≡ result_and p t → Listed s q r
+listed {p = p} t i fresh owes a g f j =
+    let b = rw i at a in
+    whole_list fresh owes b g (λ e. j ∙ joined p t e) (rw j (joined_told p t b.walked.told f))
