@@ -1,6 +1,7 @@
 -- What the turns give to their writes, joined, and what is owed after them are what was owed at the start.
 use Rattle.std.specs.Result.{result_and}
-use Rattle.std.proofs.Common.{◌≡◌, ℕ, Result, Ok, Err, is_err, IsOkUnless, ◌+◌, ◌-◌, ◌^◌, Bool, true, false, ◌⊎◌, List, [], ◌++◌, sym, refl, ap, ◌∙◌, inl, inr, true≢false, append_assoc, append-nil, arith}
+use Rattle.std.proofs.lemmas.Result.{err_from_is_err_and}
+use Rattle.std.proofs.Common.{◌≡◌, ℕ, Result, Ok, Err, is_err, IsOkUnless, IsErrAnd, ◌<◌, ◌+◌, ◌-◌, ◌^◌, Bool, true, false, ◌⊎◌, List, [], ◌++◌, sym, refl, ap, ◌∙◌, inl, inr, true≢false, append_assoc, append-nil, arith}
 use Rattle.wire.specs.Choice.{pick}
 use Rattle.stream.specs.declared.Failure.{Failure}
 use Rattle.stream.specs.declared.Failure.TheVariants.{Reading, Writing}
@@ -31,9 +32,23 @@ pub walked_more : {c : Settings} {w r r' : Walk} {q : Result Unit Failure} {k j 
     → Walked c w j q r'
 walked_more e a t = record { read = _; text = _; turns = turned (rw e at a.turns) t; told = t.told }
 
--- a write failed
-pub ended_failed : {c : Settings} {w r : Walk} {p q : Result Unit Failure} {k : ℕ} → Walked c w k p r → is_err p ≡ true → q ≡ p → Ended c w q r
-ended_failed {k = k} a f e = record { left = k; walked = rw e a; ends = inr (inl (rw e f)) }
+-- one turn more, in which nothing failed
+pub walked_on : {c : Settings} {w r r' : Walk} {q : Result Unit Failure} {k j : ℕ} → Walked c w k (Ok tt) r → Turned c r q r' → q ≡ Ok tt
+    → k ≡ j + 1 → Walked c w j (Ok tt) r'
+walked_on a t e f = rw e at (walked_more f a t)
+
+-- all is offered
+pub ended_offered : {c : Settings} {w r : Walk} {k : ℕ} → Walked c w k (Ok tt) r → Offered r.input → Ended c w (Ok tt) r
+ended_offered {k = k} a o = record { left = k; walked = a; ends = inl o }
+
+-- a turn failed, and that is handed on
+pub ended_failed : {c : Settings} {w r r' : Walk} {p q : Result Unit Failure} {k : ℕ} {e : Failure} → Walked c w k (Ok tt) r → Turned c r p r'
+    → p ≡ Err e → IsErrAnd q (λ x. x ≡ e) → 0 < k → Ended c w q r'
+ended_failed {p = p} {q = q} {k = k} {e = e} a t f i more =
+    let m : k ≡ (k - 1) + 1 = omega (arith, more) in
+    let x = err_from_is_err_and q i in
+    let g : p ≡ q = f ∙ sym (x.1 ∙ ap (λ (x : Failure). Err x) x.2) in
+    record { left = k - 1; walked = rw g at (walked_more m a t); ends = inr (inl (rw x.1)) }
 
 -- all is offered: nothing is left
 left_nothing : (w : Window) → Offered w → Left w []
@@ -42,11 +57,11 @@ left_nothing w a =
     record { front = rw z; all = λ t. omega arith }
 
 -- the answer of two in a row: a failure of the first stays
-pub joined : (p q : Result Unit Failure) → is_err p ≡ true → result_and p q ≡ p
+joined : (p q : Result Unit Failure) → is_err p ≡ true → result_and p q ≡ p
 joined (Ok v) q e = absurd (true≢false (sym e))
 joined (Err x) q e = refl
 
-pub joined_told : (p q : Result Unit Failure) → IsOkUnless p Writing → IsOkUnless q Writing → IsOkUnless (result_and p q) Writing
+joined_told : (p q : Result Unit Failure) → IsOkUnless p Writing → IsOkUnless q Writing → IsOkUnless (result_and p q) Writing
 joined_told (Ok v) q e f = f
 joined_told (Err x) q e f = e
 
@@ -93,8 +108,8 @@ module _
       ∙ turns_owed turns rest l
       ∙ ap (λ (x : List ℕ). text ++ x) (owed_waits listing_settings w rest waits)
 
-  pub listed : Listed s q r
-  listed =
+  whole_list : Listed s q r
+  whole_list =
       record {
         fresh = fresh;
         end = e;
@@ -109,3 +124,11 @@ module _
         silent = silent;
         live = live;
       }
+
+-- the turns from a fresh start to an end, and a write of what their last lines leave
+pub listed : {c : Settings} {final : List ℕ} {s e r : Walk} {p q : Result Unit Failure} (t : Result Unit Failure) → c ≡ listing_settings
+    → Fresh s → ((recording : List ℕ) → owed listing_settings s recording ≡ listing recording) → Ended c s p e → Gave e final r
+    → IsOkUnless t Writing → q ≡ result_and p t → Listed s q r
+listed {p = p} t i fresh owes a g f j =
+    let b = rw i at a in
+    whole_list fresh owes b g (λ e. j ∙ joined p t e) (rw j (joined_told p t b.walked.told f))

@@ -250,6 +250,7 @@ impl Walk {
 
     // Turn after turn, until all is offered or a write failed. A proved loop has to end, and nothing says that the input does: no
     // listing uses up so many turns.
+    #[tactic(auto, using(crate::proofs::Turns::walked_none, crate::proofs::Turns::walked_on))]
     fn walk_on(
         &mut self,
         rt: &(impl std::io::Input + Print + Clock),
