@@ -7,6 +7,7 @@ ghost use Rattle.stream.specs.declared.Failure.TheVariants.{Reading, Writing};
 ghost use Rattle.stream.specs.Words.{Filled};
 ghost use Rattle.archive.specs.Archive.{Archived, outcome_of};
 
+use itoa::Buffer;
 use rules::Refusal;
 use std::io::{Write, writer};
 use std::rt::Clock;
@@ -58,9 +59,9 @@ fn archive<'a>(
 
 // The refusal's number and a line's end, to the error output. `writeln!` would give up where a write has to be made again.
 fn tell(clock: &impl Clock, errors: &mut impl Write, refusal: Refusal) {
-    let mut text = [0u8; 20];
-    let k = io::decimal(u64::from(u8::from(refusal)), &mut text);
-    let _ = write_whole(clock, errors, &text[..k]);
+    let mut digits = Buffer::new();
+    let number = digits.format(u8::from(refusal)).as_bytes();
+    let _ = write_whole(clock, errors, number);
     let _ = write_whole(clock, errors, b"\n");
 }
 

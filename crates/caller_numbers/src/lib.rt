@@ -2,11 +2,10 @@
 #![tactic(auto)]
 
 ghost use Rattle.std.specs.Prelude.{◌≡◌};
-ghost use Rattle.wire.specs.Bytes.{bytes_of};
 ghost use Rattle.caller_numbers.specs.Numbers.{address_of, settings_of, state_of, state_bytes};
 
 use rules::{Address, Key, Settings, State};
-use wire::{u16_at, u32_at, u32_bytes};
+use wire::{u16_at, u32_at};
 
 // An address in printed order, MAC_address_1 first. Six numbers and no array, as C gives them.
 pub fn address_of(mac1: u8, mac2: u8, mac3: u8, mac4: u8, mac5: u8, mac6: u8) -> Address
@@ -62,14 +61,6 @@ pub fn state_of(state: &[u8; 16]) -> State
     }
 }
 
-// The two low bytes of a number, high byte first.
-#[tactic(auto, unfolding(wire::specs::Bytes::bytes_of))]
-fn two_bytes(x: usize) -> [u8; 2]
-    ensures { result ≡ bytes_of 2 x }
-{
-    ((x % 65536) as u16).to_be_bytes()
-}
-
 // The bytes of a state; an idle one has zeros.
 #[tactic(auto, unfolding(crate::specs::Numbers::state_bytes, wire::specs::Bytes::bytes_of), using(crate::proofs::Meaning::flag_byte))]
 pub fn state_bytes(state: State) -> [u8; 16]
@@ -78,13 +69,13 @@ pub fn state_bytes(state: State) -> [u8; 16]
     let State::Open { next, filled, key } = state else {
         return [0; 16];
     };
-    let [next1, next2] = two_bytes(next);
-    let [last1, last2] = two_bytes(key.last);
-    let [filled1, filled2, filled3, filled4] = u32_bytes((filled % 4294967296) as u32);
+    let [next1, next2] = ((next % 65536) as u16).to_be_bytes();
+    let [last1, last2] = ((key.last % 65536) as u16).to_be_bytes();
+    let [filled1, filled2, filled3, filled4] = ((filled % 4294967296) as u32).to_be_bytes();
     let address = key.address;
     [
         1,
-        key.llc_snap as u8,
+        u8::from(key.llc_snap),
         next1,
         next2,
         last1,

@@ -7,7 +7,7 @@ ghost use Rattle.std.specs.Int.Bits.{bit_xor};
 ghost use Rattle.rules.specs.Crc.{crc_bits, crc32};
 ghost use Rattle.crc.specs.Words.{number, crc_after};
 
-// The first `count` bytes as one number; written so, eight of them are one load.
+// The first `count` bytes as one number, of any count up to eight, where `from_be_bytes` takes eight; written so, eight of them are one load.
 #[tactic(auto, unfolding(crate::specs::Words::number), using(crate::proofs::Bytes::number_more, crate::proofs::Bytes::number_fits))]
 fn read(s: &[u8], count: usize) -> u64
     requires { (count ≤ 8) × (count ≤ length s.now) }
@@ -45,7 +45,7 @@ fn reduce(v: u64) -> u32
 
 // The two walks stay two, each with its own multiple's shifts, and go by `&rest[8..]`: they leave one word, or four and five, so that a `for`
 // over `chunks_exact` would need those counted and cut off first, which is no plainer; nor would a struct of the five words be, each named in
-// every line.
+// every line, nor a type for a slice of eight bytes or more, which each turn would have to make anew.
 
 // Down to the last word by x^120 + x^56 + x^40 + x^33 + x^15 + x^9 + x^8 + x + 1, which reaches only two words on.
 #[tactic(auto, unfolding(crate::proofs::Shifts::moved), using(rules::proofs::Crc::crc_bits_lt, crate::proofs::Clear::last_word))]
@@ -70,7 +70,7 @@ fn by_near(s: &[u8], first: u64, a1: u64, a2: u64, a3: u64, a4: u64) -> u32
         rest = &rest[8..];
     }
     let register = reduce(v);
-    reduce(next(rest, z1) ^ ((register as u64) << 32))
+    reduce(next(rest, z1) ^ (u64::from(register) << 32))
 }
 
 // As long as six words are left, by x^300 + x^155 + x^117 + x^89 + 1, which has fewer terms but reaches five words on.

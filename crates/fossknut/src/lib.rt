@@ -1,5 +1,7 @@
 // What the Rust box links, through the static library fossknut_c: functions on numbers and bytes only. A slice passes as a pointer and then a
 // length, sixteen bytes as a pointer.
+// Each stands beside an export of the same clauses in fossknut_c: a crate is a library or a static library, and none may stand on a static one, so
+// that the theorems about exported functions cite these (docs/DECISIONS.md, 118).
 #![tactic(auto)]
 
 ghost use Rattle.std.specs.Prelude.{◌≡◌};
@@ -167,19 +169,13 @@ pub fn fossknut_pes(
         offset.new
         length.new }
 {
-    let nothing = Packet {
-        extension: None,
-        rate: None,
-        offset: 0,
-        end: 0,
-    };
     let (answer, p) = match pes::read(packet) {
         Ok(p) => (5, p),
-        Err(refusal) => (u8::from(refusal), nothing),
+        Err(refusal) => (u8::from(refusal), Packet::default()),
     };
-    *extended = p.extension.is_some() as u8;
-    *rated = p.rate.is_some() as u8;
-    *extension = p.extension.unwrap_or(0) as usize;
+    *extended = u8::from(p.extension.is_some());
+    *rated = u8::from(p.rate.is_some());
+    *extension = usize::from(p.extension.unwrap_or(0));
     *rate = p.rate.unwrap_or(0) as usize;
     *offset = p.offset;
     *length = p.end - p.offset;

@@ -1,4 +1,5 @@
-// libfossknut.a: the functions that foreign callers link, each the library fossknut's own, under the same clauses; what each does is said there.
+// libfossknut.a: the functions that foreign callers link, each the library fossknut's own, under the same clauses; what each does is said there. A
+// crate is a library or a static library, and none may stand on a static one: so both stand here and there (docs/DECISIONS.md, 118).
 #![tactic(auto)]
 
 ghost use Rattle.std.specs.Prelude.{◌≡◌};

@@ -63,7 +63,7 @@ fn put_line(output: &mut Output, offset: u64, answer: Result<Reception, Refusal>
     requires { length output.old.bytes + 63 ≤ 65536 }
     ensures { output.new.bytes ≡ output.old.bytes ++ line offset (answer_told answer) }
 {
-    let number = answer_numbers::number_of(answer) as u64;
+    let number = u64::from(answer_numbers::number_of(answer));
     let length = answer_numbers::length_of(answer) as u64;
     put_field(output, offset, ' ');
     put_field(output, number, ' ');

@@ -28,7 +28,7 @@ fn output_data_rate_flag(packet: &[u8]) -> bool
 fn pes_data_packet_header_length(packet: &[u8]) -> usize
     ensures { Reads (pes_data_packet_header_length packet.now) 16 result }
 {
-    byte_at(packet, 2) as usize % 16
+    usize::from(byte_at(packet, 2)) % 16
 }
 
 #[tactic(auto, unfolding(pes_rules::specs::Packet::flagged, wire::specs::Choice::pick))]

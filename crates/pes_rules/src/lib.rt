@@ -22,8 +22,9 @@ impl From<Refusal> for u8 {
     }
 }
 
-// What is read of a packet: PTS_extension and output_data_rate where they are flagged, and where in the packet the data begins and ends.
-#[derive(Clone, Copy)]
+// What is read of a packet: PTS_extension and output_data_rate where they are flagged, and where in the packet the data begins and ends: by its
+// place and not as a slice, as contracts and callers in C are told it.
+#[derive(Clone, Copy, Default)]
 pub struct Packet {
     pub extension: Option<u16>,
     pub rate: Option<u32>,

@@ -70,6 +70,7 @@ fn ours(settings: Settings, s: &[u8]) -> bool
     same_address(settings.range, settings.address, address(s))
 }
 
+// The twin of section_check's test for 19, of another field of the same byte.
 #[tactic(auto, unfolding(rules::specs::Step::payload_scrambled))]
 fn payload_scrambled(s: &[u8]) -> bool
     ensures { result ≡ payload_scrambled s.now }
@@ -112,7 +113,8 @@ fn own_refusal(settings: Settings, s: &[u8]) -> Result<(), Refusal>
     Ok(())
 }
 
-// From here on f, s and the buffer go together; as a struct they would be no plainer, with nothing else beside them.
+// From here on f, s and the buffer go together: the caller lends the buffer and keeps f, its filled length, in the state. A struct of the three
+// would be taken apart in each function, which is no plainer.
 
 // Finishes the unit with the payload of s, which fits. Where the unit ends is read from what is stored and from the payload before anything is
 // written, so that a refusal leaves the buffer as it was.

@@ -45,7 +45,7 @@ fn crc_line(rt: &impl Print, name: &str, bytes: &[u8]) -> io::Result<()> {
     println!(rt)
 }
 
-// How many offers a recording has: a `while`, since how long an offer is stands in its own bytes.
+// How many offers a recording has: a `while` that counts them, since how long an offer is stands in its own bytes, so that no range or chunks do.
 #[tactic(auto, using(crate::proofs::Count::counts))]
 fn offer_count(s: &[u8]) -> usize
     ensures { result ≡ length (offers s.now) }
