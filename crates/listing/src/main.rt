@@ -35,7 +35,8 @@ struct Window {
 // The output's buffer, which holds whole lines.
 type Output = ArrayString<65536>;
 
-// The first of the bytes at hand is number `offset` of the input. The receiver has the unit's buffer and the state.
+// The first of the bytes at hand is number `offset` of the input. The receiver has the unit's buffer and the state. Settings stand beside a walk
+// and not in it: they do not change, and the contracts say what they say of any.
 #[derive(Drop)]
 struct Walk {
     input: Window,

@@ -193,7 +193,7 @@ fn step(
     lay(f, s, buffer)
 }
 
-// Gives the receiver one section. A refusal drops the run.
+// Gives the receiver one section. A refusal drops the run. Settings and state stay two values: the caller keeps the one and hands on the other.
 pub fn receive(settings: Settings, state: State, s: &[u8], buffer: &mut [u8]) -> Step
     ensures { Does (step_of settings state s.now buffer.old) result buffer.new }
 {

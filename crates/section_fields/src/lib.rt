@@ -1,6 +1,7 @@
 // The fields of a datagram section (EN 301 192, table 3), in the table's order, read from any slice: a byte that it does not have is 0.
 // Bits are taken by `/` and `%`, as the definitions take them; shifts and masks would be no plainer.
-// Fields that are alike have a function each all the same: it is the table's field by its name, and one line.
+// Fields that are alike have a function each all the same: it is the table's field by its name, and one line. Indicators of one bit are the numbers
+// 0 and 1, as the table has them.
 #![tactic(auto)]
 
 ghost use Rattle.std.specs.Prelude.{◌≡◌};

@@ -42,7 +42,8 @@ fn again(clock: &impl Clock, error: Error) -> bool {
 }
 
 // Makes a call until it moves something, or fails for good. A proved loop has to end, and nothing says that the wait does: no wait
-// uses up so many turns. The call is handed what it changes, so that it is the same call each time.
+// uses up so many turns. The call is handed what it changes, so that it is the same call each time. Clock and stream stay two parameters here, as the
+// kit's own functions take them.
 fn retry<S, F: Fn(&mut S, &mut [u8]) -> std::io::Result<usize>>(
     clock: &impl Clock,
     stream: &mut S,
