@@ -38,7 +38,8 @@ fn read_input(rt: &(impl std::io::Input + Clock), buffer: &mut [u8]) -> Result<u
 // So that 65,280 bytes go out in 16 sections: where no piece size is given, pieces are smaller.
 const PIECE_SIZE: usize = 4080;
 
-// What goes to standard output: the sections of the unit, which is all that was read. They are the first bytes of `out`.
+// What goes to standard output: the sections of the unit, which is all that was read. They are the first bytes of `out`. The buffer comes with how
+// much of it was read, and not as a slice, so that the contract says which bytes the unit is.
 #[tactic(auto, unfolding(rules::specs::Told::sending_told), using(crate::proofs::Says::sends))]
 fn archive<'a>(
     input: Result<usize, Failure>,

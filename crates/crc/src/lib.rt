@@ -44,7 +44,8 @@ fn reduce(v: u64) -> u32
 }
 
 // The two walks stay two, each with its own multiple's shifts, and go by `&rest[8..]`: they leave one word, or four and five, so that a `for`
-// over `chunks_exact` would need those counted and cut off first, which is no plainer.
+// over `chunks_exact` would need those counted and cut off first, which is no plainer; nor would a struct of the five words be, each named in
+// every line.
 
 // Down to the last word by x^120 + x^56 + x^40 + x^33 + x^15 + x^9 + x^8 + x + 1, which reaches only two words on.
 #[tactic(auto, unfolding(crate::proofs::Shifts::moved), using(rules::proofs::Crc::crc_bits_lt, crate::proofs::Clear::last_word))]

@@ -13,6 +13,7 @@ ghost use Rattle.notification_rules.specs.Finding.{finding_of};
 ghost use Rattle.pes_rules.specs.Packet.{read_of};
 
 use caller_numbers::{address_of, settings_of, state_bytes, state_of};
+use pes_rules::Packet;
 
 // CRC_32 of the bytes.
 pub fn fossknut_crc_32(s: &[u8]) -> u32
@@ -166,24 +167,21 @@ pub fn fossknut_pes(
         offset.new
         length.new }
 {
-    match pes::read(packet) {
-        Ok(p) => {
-            *extended = p.extension.is_some() as u8;
-            *rated = p.rate.is_some() as u8;
-            *extension = p.extension.unwrap_or(0) as usize;
-            *rate = p.rate.unwrap_or(0) as usize;
-            *offset = p.offset;
-            *length = p.end - p.offset;
-            5
-        }
-        Err(refusal) => {
-            *extended = 0;
-            *rated = 0;
-            *extension = 0;
-            *rate = 0;
-            *offset = 0;
-            *length = 0;
-            u8::from(refusal)
-        }
-    }
+    let nothing = Packet {
+        extension: None,
+        rate: None,
+        offset: 0,
+        end: 0,
+    };
+    let (answer, p) = match pes::read(packet) {
+        Ok(p) => (5, p),
+        Err(refusal) => (u8::from(refusal), nothing),
+    };
+    *extended = p.extension.is_some() as u8;
+    *rated = p.rate.is_some() as u8;
+    *extension = p.extension.unwrap_or(0) as usize;
+    *rate = p.rate.unwrap_or(0) as usize;
+    *offset = p.offset;
+    *length = p.end - p.offset;
+    answer
 }

@@ -112,6 +112,8 @@ fn own_refusal(settings: Settings, s: &[u8]) -> Result<(), Refusal>
     Ok(())
 }
 
+// From here on f, s and the buffer go together; as a struct they would be no plainer, with nothing else beside them.
+
 // Finishes the unit with the payload of s, which fits. Where the unit ends is read from what is stored and from the payload before anything is
 // written, so that a refusal leaves the buffer as it was.
 #[tactic(auto, unfolding(rules::specs::Step::finish, rules::specs::Step::joined_with, rules::specs::Step::laid, rules::specs::Step::room, rules::specs::Step::up_to, rules::specs::Told::answer_told, rules::specs::Told::number))]

@@ -1,5 +1,5 @@
 // Whether a section is sound: the numbers 12 to 19 of document 01, in its order, and 24 of document 02 at 15's place, for every slice of every
-// length.
+// length. Form and slice stay two parameters: the form is a type of another crate, and a struct of the two would be no plainer.
 #![tactic(auto)]
 
 ghost use Rattle.std.specs.Prelude.{◌≡◌};

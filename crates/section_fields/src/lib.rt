@@ -39,7 +39,7 @@ pub fn section_length(s: &[u8]) -> usize
     wire::u16_at(s, 1) % 4096
 }
 
-// The address in printed order; MAC_address_6 is sent first.
+// The address in printed order; MAC_address_6 is sent first. Field by field: its bytes stand in two places.
 #[tactic(auto, unfolding(rules::specs::Section::address))]
 pub fn address(s: &[u8]) -> Address
     ensures { result ≡ address s.now }

@@ -69,13 +69,7 @@ fn send_line(
     unit: &[u8],
     out: &mut [u8],
 ) -> io::Result<()> {
-    let Ok(total) = sender::send(
-        recording::listing_settings(),
-        llc_snap,
-        size,
-        unit,
-        out,
-    ) else {
+    let Ok(total) = sender::send(recording::listing_settings(), llc_snap, size, unit, out) else {
         return Ok(());
     };
     let count = offer_count(&out[..total]);
