@@ -125,7 +125,7 @@ module _
         live = live;
       }
 
--- the turns from a fresh start to an end, and a write of what their last lines leave
+-- the turns from a fresh start to an end, and a write of what their last lines leave, which answered t
 pub listed : {c : Settings} {final : List ℕ} {s e r : Walk} {p q : Result Unit Failure} (t : Result Unit Failure) → c ≡ listing_settings
     → Fresh s → ((recording : List ℕ) → owed listing_settings s recording ≡ listing recording) → Ended c s p e → Gave e final r
     → IsOkUnless t Writing → q ≡ result_and p t → Listed s q r
