@@ -17,14 +17,11 @@ pub enum Choice {
 fn from_location<'a>(s: &'a [u8]) -> Option<&'a [u8]>
     ensures { Reaches s.now result }
 {
-    let size = descriptor_size(s);
-    if s.len() < size {
-        return None;
-    }
+    let (_, rest) = s.split_at_checked(descriptor_size(s))?;
     if byte_at(s, 0) == 0x13 {
         return Some(s);
     }
-    from_location(&s[size..])
+    from_location(rest)
 }
 
 // A loop has a 0x13.

@@ -29,7 +29,7 @@ pub fn loop_size(s: &[u8]) -> usize
 pub fn descriptor_size(s: &[u8]) -> usize
     ensures { Reads (descriptor_size s.now) 258 result }
 {
-    2 + byte_at(s, 1) as usize
+    2 + usize::from(byte_at(s, 1))
 }
 
 // A descriptor with this tag may have n bytes.
@@ -64,12 +64,10 @@ fn descriptor_loop(s: &[u8], fit: Fit) -> Fit
     if s.len() == 0 {
         return fit;
     }
-    let size = descriptor_size(s);
-    if s.len() < size {
+    let Some((_, rest)) = s.split_at_checked(descriptor_size(s)) else {
         return Fit::Misfit;
-    }
-    let next = with_descriptor(fit, byte_at(s, 0), byte_at(s, 1));
-    descriptor_loop(&s[size..], next)
+    };
+    descriptor_loop(rest, with_descriptor(fit, byte_at(s, 0), byte_at(s, 1)))
 }
 
 // `fit` after a target loop and what follows it, up to the end. That these two call each other by turns is promised (docs/PROMISES.md).
@@ -81,11 +79,10 @@ fn target_loop(s: &[u8], fit: Fit) -> Fit
     if s.len() == 0 {
         return fit;
     }
-    let size = loop_size(s);
-    if s.len() < size {
+    let Some((target, rest)) = s.split_at_checked(loop_size(s)) else {
         return Fit::Misfit;
-    }
-    operational_loop(&s[size..], descriptor_loop(&s[2..size], fit))
+    };
+    operational_loop(rest, descriptor_loop(&target[2..], fit))
 }
 
 // `fit` after an operational loop, which has to be there, and what follows it; the platform loop is read in the same way.
@@ -94,11 +91,10 @@ fn target_loop(s: &[u8], fit: Fit) -> Fit
 pub fn operational_loop(s: &[u8], fit: Fit) -> Fit
     ensures { result ≡ worse fit (loop_fit true s.now) }
 {
-    let size = loop_size(s);
-    if s.len() < size {
+    let Some((operational, rest)) = s.split_at_checked(loop_size(s)) else {
         return Fit::Misfit;
-    }
-    target_loop(&s[size..], descriptor_loop(&s[2..size], fit))
+    };
+    target_loop(rest, descriptor_loop(&operational[2..], fit))
 }
 
 // What stands after the first k bytes; nothing where there are not as many.
