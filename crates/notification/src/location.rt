@@ -13,7 +13,7 @@ pub enum Choice {
 }
 
 // A loop from its first 0x13 on.
-#[tactic(auto, using(crate::proofs::Locations::reaches_end, crate::proofs::Locations::reaches_here, crate::proofs::Locations::reaches_more, notification_rules::proofs::Items::descriptor_two, wire::proofs::Lists::from))]
+#[tactic(auto, using(crate::proofs::Locations::reaches_end, crate::proofs::Locations::reaches_here, crate::proofs::Locations::reaches_more, notification_rules::proofs::Items::descriptor_two))]
 fn from_location<'a>(s: &'a [u8]) -> Option<&'a [u8]>
     ensures { Reaches s.now result }
 {

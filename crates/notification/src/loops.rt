@@ -57,7 +57,7 @@ fn with_descriptor(fit: Fit, tag: u8, n: u8) -> Fit
 }
 
 // `fit` after the descriptors up to the end of a loop. That it calls itself on the rest is promised (docs/PROMISES.md).
-#[tactic(auto, using(crate::proofs::Fits::fit_end, crate::proofs::Fits::fit_stop, crate::proofs::Fits::fit_more, notification_rules::proofs::Items::descriptor_two, wire::proofs::Lists::from))]
+#[tactic(auto, using(crate::proofs::Fits::fit_end, crate::proofs::Fits::fit_stop, crate::proofs::Fits::fit_more, notification_rules::proofs::Items::descriptor_two))]
 fn descriptor_loop(s: &[u8], fit: Fit) -> Fit
     ensures { result ≡ worse fit (descriptor_fit s.now) }
 {
@@ -72,7 +72,7 @@ fn descriptor_loop(s: &[u8], fit: Fit) -> Fit
 
 // `fit` after a target loop and what follows it, up to the end. That these two call each other by turns is promised (docs/PROMISES.md).
 #[cycle(operational_loop_target_loop)]
-#[tactic(auto, using(crate::proofs::Fits::loops_end, crate::proofs::Fits::loops_short, crate::proofs::Fits::loops_on, notification_rules::proofs::Items::loop_two, wire::proofs::Lists::from))]
+#[tactic(auto, using(crate::proofs::Fits::loops_end, crate::proofs::Fits::loops_short, crate::proofs::Fits::loops_on, notification_rules::proofs::Items::loop_two))]
 fn target_loop(s: &[u8], fit: Fit) -> Fit
     ensures { result ≡ worse fit (loop_fit false s.now) }
 {
@@ -87,7 +87,7 @@ fn target_loop(s: &[u8], fit: Fit) -> Fit
 
 // `fit` after an operational loop, which has to be there, and what follows it; the platform loop is read in the same way.
 #[cycle(operational_loop_target_loop)]
-#[tactic(auto, using(crate::proofs::Fits::loops_missing, crate::proofs::Fits::loops_on, notification_rules::proofs::Items::loop_two, wire::proofs::Lists::from))]
+#[tactic(auto, using(crate::proofs::Fits::loops_missing, crate::proofs::Fits::loops_on, notification_rules::proofs::Items::loop_two))]
 pub fn operational_loop(s: &[u8], fit: Fit) -> Fit
     ensures { result ≡ worse fit (loop_fit true s.now) }
 {
