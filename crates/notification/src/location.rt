@@ -12,7 +12,8 @@ pub enum Choice {
     Platform(usize),
 }
 
-// A loop from its first 0x13 on.
+// A loop from its first 0x13 on. It calls itself on the rest, as the reader of descriptors does (`descriptor_loop`): how far it goes on stands
+// in the bytes, and no iterator of slices cuts so.
 #[tactic(auto, using(crate::proofs::Locations::reaches_end, crate::proofs::Locations::reaches_here, crate::proofs::Locations::reaches_more, notification_rules::proofs::Items::descriptor_two))]
 fn from_location<'a>(s: &'a [u8]) -> Option<&'a [u8]>
     ensures { Reaches s.now result }
@@ -44,7 +45,7 @@ pub fn choose(operational: &[u8], platform: &[u8]) -> Option<Choice>
     Some(Choice::Platform(platform.len() - general.len() + 2))
 }
 
-// Nine bytes from an offset on, if there are as many.
+// Nine bytes from an offset on, if there are as many. Cut by an index: `get` and `split_at_checked` do not say where a part stands.
 fn nine<'a>(s: &'a [u8], offset: usize) -> Option<&'a [u8]>
     ensures { Nine s.entry offset result }
 {
