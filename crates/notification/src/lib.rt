@@ -18,7 +18,7 @@ use location::{Choice, choose, has_location, pick};
 use loops::{Fit, after, descriptor_size, loop_size, operational_loop};
 use rules::{Address, Form, Refusal};
 use section_fields::checked;
-use target::{entry_bytes, entry_size, hit};
+use target::Kind;
 use wire::byte_at;
 
 // The form of this table's sections; private_indicator is not looked at.
@@ -89,7 +89,7 @@ fn loop_at<'a>(s: &'a [u8], offset: usize) -> &'a [u8]
 
 // The offset of the first pair that covers the device and has a location, or the end; `general` says that the platform loop has one. A loop
 // over the pairs and one over the addresses, left by label at the first hit, are promised (docs/PROMISES.md), and so no chain of iterators.
-#[tactic(auto, using(crate::proofs::Pairs::first_whole, crate::proofs::Pairs::second_whole, crate::proofs::Pairs::pair_whole, crate::proofs::Pairs::ends, notification_rules::proofs::Items::descriptor_two, notification_rules::proofs::Items::entry_some))]
+#[tactic(auto, using(crate::proofs::Pairs::first_whole, crate::proofs::Pairs::second_whole, crate::proofs::Pairs::pair_whole, crate::proofs::Pairs::ends, notification_rules::proofs::Items::descriptor_two))]
 fn search(device: Address, s: &[u8], from: usize, general: bool) -> usize
     requires { Turns s.now from }
     ensures { StopsAt device general s.now from result }
@@ -107,9 +107,10 @@ fn search(device: Address, s: &[u8], from: usize, general: bool) -> usize
             'descriptors: while let Some((descriptor, next)) = rest.split_at_checked(
                 descriptor_size(rest),
             ) {
-                let step = entry_size(byte_at(descriptor, 0));
-                'addresses: for entry in entry_bytes(descriptor).chunks_exact(step) {
-                    if hit(device, descriptor, entry) {
+                let kind = Kind::of(byte_at(descriptor, 0));
+                let step = kind.entry_size();
+                'addresses: for entry in kind.entry_bytes(descriptor).chunks_exact(step) {
+                    if kind.hit(device, descriptor, entry) {
                         break 'pairs;
                     }
                 }

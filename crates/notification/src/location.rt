@@ -3,6 +3,7 @@ ghost use Rattle.std.specs.Prelude.{◌≡◌};
 ghost use Rattle.notification.specs.Readers.{Reaches, Has, choice_of, Nine, Picked};
 
 use crate::loops::{after, descriptor_size};
+use crate::target::Kind;
 use wire::byte_at;
 
 // Which of two loops has the location, and where in what it holds the nine bytes begin.
@@ -19,7 +20,7 @@ fn from_location<'a>(s: &'a [u8]) -> Option<&'a [u8]>
     ensures { Reaches s.now result }
 {
     let (_, rest) = s.split_at_checked(descriptor_size(s))?;
-    if byte_at(s, 0) == 0x13 {
+    if let Kind::Location = Kind::of(byte_at(s, 0)) {
         return Some(s);
     }
     from_location(rest)

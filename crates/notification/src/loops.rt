@@ -5,6 +5,7 @@ ghost use Rattle.notification_rules.specs.Loop.{loop_size, descriptor_size};
 ghost use Rattle.notification_rules.specs.Target.{right_length};
 ghost use Rattle.notification.specs.Readers.{worse, length_fit, descriptor_fit, loop_fit, After};
 
+use crate::target::Kind;
 use wire::byte_at;
 
 // How loops and descriptors fill bytes: exactly; with a known descriptor of another length (33); not exactly (32). Each is worse than the
@@ -37,11 +38,11 @@ pub fn descriptor_size(s: &[u8]) -> usize
 fn right_length(tag: u8, n: u8) -> bool
     ensures { result ≡ right_length tag n }
 {
-    match tag {
-        0x07 => 6 <= n && n % 6 == 0,
-        0x0e => n % 12 == 0,
-        0x13 => n == 9,
-        _ => true,
+    match Kind::of(tag) {
+        Kind::Addresses => 6 <= n && n % 6 == 0,
+        Kind::Ranges => n % 12 == 0,
+        Kind::Location => n == 9,
+        Kind::Other => true,
     }
 }
 
