@@ -107,7 +107,7 @@ fn search(device: Address, s: &[u8], from: usize, general: bool) -> usize
             'descriptors: while let Some((descriptor, next)) = rest.split_at_checked(
                 descriptor_size(rest),
             ) {
-                let kind = Kind::of(byte_at(descriptor, 0));
+                let kind = Kind::from(byte_at(descriptor, 0));
                 let step = kind.entry_size();
                 'addresses: for entry in kind.entry_bytes(descriptor).chunks_exact(step) {
                     if kind.hit(device, descriptor, entry) {

@@ -20,7 +20,7 @@ fn from_location<'a>(s: &'a [u8]) -> Option<&'a [u8]>
     ensures { Reaches s.now result }
 {
     let (_, rest) = s.split_at_checked(descriptor_size(s))?;
-    if let Kind::Location = Kind::of(byte_at(s, 0)) {
+    if Kind::from(byte_at(s, 0)) == Kind::Location {
         return Some(s);
     }
     from_location(rest)

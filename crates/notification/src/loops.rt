@@ -38,7 +38,7 @@ pub fn descriptor_size(s: &[u8]) -> usize
 fn right_length(tag: u8, n: u8) -> bool
     ensures { result ≡ right_length tag n }
 {
-    match Kind::of(tag) {
+    match Kind::from(tag) {
         Kind::Addresses => 6 <= n && n % 6 == 0,
         Kind::Ranges => n % 12 == 0,
         Kind::Location => n == 9,

@@ -9,7 +9,7 @@ use crate::range::{address_at, in_range};
 use rules::Address;
 
 // What a descriptor's tag says that it holds: addresses under a mask (0x07), ranges of them (0x0E), a stream's location (0x13), or else.
-#[derive(Clone, Copy)]
+#[derive(Clone, Copy, PartialEq, Eq)]
 pub enum Kind {
     Addresses,
     Ranges,
@@ -34,10 +34,10 @@ fn same_under(device: Address, mask: &[u8], e: &[u8]) -> bool
     address_number(address_at(e, 0)) & bits == address_number(device) & bits
 }
 
-impl Kind {
-    pub fn of(tag: u8) -> Kind
-        ensures { IsKind result tag }
-    {
+impl From<u8> for Kind {
+    ghost from_gives = { λ tag kind. IsKind kind tag };
+
+    fn from(tag: u8) -> Kind {
         match tag {
             0x07 => Kind::Addresses,
             0x0e => Kind::Ranges,
@@ -45,7 +45,9 @@ impl Kind {
             _ => Kind::Other,
         }
     }
+}
 
+impl Kind {
     // The bytes of an entry: an address, or a lowest and a highest address.
     #[tactic(auto, unfolding(notification_rules::specs::Target::entry_size, wire::specs::Choice::pick))]
     pub fn entry_size(self) -> usize

@@ -41,7 +41,7 @@ descriptors-preserved c =
     let I = c.addresses.invariant in
     let l : length (chunks_exact_rest c.addresses.entry-iterator) < c.entry_size-step.result = omega (arith, s.1.0, I.0) in
     descriptor_miss D _ _ c.descriptor_size.ensures.is d _ c.in-Some.ensures.cases
-    (covers_by D d _ _ _ false c.byte_at.ensures.is (c.entry_size-step.ensures.is _ c.of-kind.ensures) refl (sym I.1 ∙ no_entry D d _ g _ l))
+    (covers_by D d _ _ _ false c.byte_at.ensures.is (c.entry_size-step.ensures.is _ c.from-kind.ensures) refl (sym I.1 ∙ no_entry D d _ g _ l))
     ∙ c.descriptors.invariant
 
 pub returns-then-hit : goal.returns-then-hit
@@ -54,7 +54,7 @@ returns-then-hit c =
     let s = rw c.in-Some-entry.is at c.next.ensures.steps in
     let I = c.addresses.invariant in
     let struck = entry_hit D d _ g _ _ _ s.1.0 (s.1.1 ∙ I.0) (was c.hit.ensures c.if-hit.true) in
-    let by = covers_by D d _ _ _ true c.byte_at.ensures.is (c.entry_size-step.ensures.is _ c.of-kind.ensures) refl (sym I.1 ∙ struck) in
+    let by = covers_by D d _ _ _ true c.byte_at.ensures.is (c.entry_size-step.ensures.is _ c.from-kind.ensures) refl (sym I.1 ∙ struck) in
     let all = sym c.descriptors.invariant
     ∙ descriptor_hit D _ _ c.descriptor_size.ensures.is d _ c.in-Some.ensures.cases by in
     stops_here c.args.device c.args.general _ _ _ _ _ q c.args.from P.invariant.1
