@@ -15,8 +15,8 @@ use Rattle.notification_rules.specs.Target.{mac_address, mac_address_range, stre
 use Rattle.notification_rules.specs.Finding.{known, finding_of}
 use Rattle.notification.specs.declared.loops.Fit.{Fit}
 use Rattle.notification.specs.declared.loops.Fit.TheVariants.{Exact, OtherLength, Misfit}
-use Rattle.notification.specs.declared.target.Kind.{Kind}
-use Rattle.notification.specs.declared.target.Kind.TheVariants as kind
+use Rattle.notification.specs.declared.loops.Kind.{Kind}
+use Rattle.notification.specs.declared.loops.Kind.TheVariants as kind
 use Rattle.notification.specs.declared.location.Choice.{Choice}
 use Rattle.notification.specs.declared.location.Choice.TheVariants.{Own, Platform}
 

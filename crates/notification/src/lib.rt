@@ -15,10 +15,9 @@ ghost use Rattle.notification_rules.specs.Told.{finding_told, Answered};
 ghost use Rattle.notification.specs.Readers.{Holds, Turns, StopsAt, Tells, Locates, told_at};
 
 use location::{Choice, choose, has_location, pick};
-use loops::{Fit, after, descriptor_size, loop_size, operational_loop};
+use loops::{Fit, Kind, after, descriptor_size, loop_size, operational_loop};
 use rules::{Address, Form, Refusal};
 use section_fields::checked;
-use target::Kind;
 use wire::byte_at;
 
 // The form of this table's sections; private_indicator is not looked at.

@@ -2,8 +2,7 @@
 ghost use Rattle.std.specs.Prelude.{◌≡◌};
 ghost use Rattle.notification.specs.Readers.{Reaches, Has, choice_of, Nine, Picked};
 
-use crate::loops::{after, descriptor_size};
-use crate::target::Kind;
+use crate::loops::{Kind, after, descriptor_size};
 use wire::byte_at;
 
 // Which of two loops has the location, and where in what it holds the nine bytes begin.

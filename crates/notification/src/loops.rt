@@ -3,9 +3,8 @@ ghost use Rattle.std.specs.Prelude.{true, false, ◌≡◌};
 ghost use Rattle.wire.specs.Bytes.{Reads};
 ghost use Rattle.notification_rules.specs.Loop.{loop_size, descriptor_size};
 ghost use Rattle.notification_rules.specs.Target.{right_length};
-ghost use Rattle.notification.specs.Readers.{worse, length_fit, descriptor_fit, loop_fit, After};
+ghost use Rattle.notification.specs.Readers.{IsKind, worse, length_fit, descriptor_fit, loop_fit, After};
 
-use crate::target::Kind;
 use wire::byte_at;
 
 // How loops and descriptors fill bytes: exactly; with a known descriptor of another length (33); not exactly (32). Each is worse than the
@@ -15,6 +14,28 @@ pub enum Fit {
     Exact,
     OtherLength,
     Misfit,
+}
+
+// What a descriptor's tag says that it holds: addresses under a mask (0x07), ranges of them (0x0E), a stream's location (0x13), or else.
+#[derive(Clone, Copy, PartialEq, Eq)]
+pub enum Kind {
+    Addresses,
+    Ranges,
+    Location,
+    Other,
+}
+
+impl From<u8> for Kind {
+    ghost from_gives = { λ tag kind. IsKind kind tag };
+
+    fn from(tag: u8) -> Kind {
+        match tag {
+            0x07 => Kind::Addresses,
+            0x0e => Kind::Ranges,
+            0x13 => Kind::Location,
+            _ => Kind::Other,
+        }
+    }
 }
 
 // The bytes that the loop at the front takes.

@@ -4,18 +4,9 @@ ghost use Rattle.wire.specs.Bytes.{byte_at};
 ghost use Rattle.notification_rules.specs.Target.{address_number, same_under, entry_size, entry_bytes, hit};
 ghost use Rattle.notification.specs.Readers.{IsKind};
 
-use crate::loops::after;
+use crate::loops::{Kind, after};
 use crate::range::{address_at, in_range};
 use rules::Address;
-
-// What a descriptor's tag says that it holds: addresses under a mask (0x07), ranges of them (0x0E), a stream's location (0x13), or else.
-#[derive(Clone, Copy, PartialEq, Eq)]
-pub enum Kind {
-    Addresses,
-    Ranges,
-    Location,
-    Other,
-}
 
 // The address as a number of 48 bits.
 #[tactic(auto, unfolding(notification_rules::specs::Target::address_number, wire::specs::Bytes::number_at))]
@@ -32,19 +23,6 @@ fn same_under(device: Address, mask: &[u8], e: &[u8]) -> bool
 {
     let bits = address_number(address_at(mask, 0));
     address_number(address_at(e, 0)) & bits == address_number(device) & bits
-}
-
-impl From<u8> for Kind {
-    ghost from_gives = { λ tag kind. IsKind kind tag };
-
-    fn from(tag: u8) -> Kind {
-        match tag {
-            0x07 => Kind::Addresses,
-            0x0e => Kind::Ranges,
-            0x13 => Kind::Location,
-            _ => Kind::Other,
-        }
-    }
 }
 
 impl Kind {
