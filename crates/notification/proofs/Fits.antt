@@ -77,12 +77,12 @@ fit_stop s x n e g h =
     let l : length s < descriptor_size s = omega arith in
     rw (filled_stop s l, nil_false s (pos_of_ne-zero g)) (worse_misfit x)
 
-pub fit_more : (s : List ℕ) (x y : Fit) (n : ℕ) → n ≡ descriptor_size s → n ≤ length s → y ≡ worse x (length_fit (byte_at s 0) (byte_at s 1))
-    → worse y (descriptor_fit (take (length s - n) (drop n s))) ≡ worse x (descriptor_fit s)
+pub fit_more : (s b : List ℕ) (x y : Fit) (n : ℕ) → n ≡ descriptor_size s → n ≤ length s → b ≡ drop n s
+    → y ≡ worse x (length_fit (byte_at s 0) (byte_at s 1)) → worse y (descriptor_fit b) ≡ worse x (descriptor_fit s)
 unfolding descriptor_fit length_fit both
-fit_more s x y n f h e =
+fit_more s b x y n f h g e =
     let l : descriptor_size s ≤ length s = omega arith in
-    rw (from, f, e, filled_more s l, known_more s l)
+    rw (g, f, e, filled_more s l, known_more s l)
     (worse_again x _ _ ∙ ap (worse x) (worse_both true (filled (drop (descriptor_size s) s)) (right_length (byte_at s 0) (byte_at s 1)) (known (drop (descriptor_size s) s))))
 
 -- ---- loops by turns
@@ -134,13 +134,13 @@ loops_missing s x n e h =
     let l : length s < loop_size s = omega arith in
     rw (loops_stop s l, turn_odd s) (worse_misfit x)
 
--- with n what was read as the first loop's size, and y what the reader gave for it
-pub loops_on : (t : Bool) (s : List ℕ) (x y : Fit) (n : ℕ) → n ≡ loop_size s → n ≤ length s → y ≡ worse x (descriptor_fit (take (n - 2) (drop 2 s)))
-    → worse y (loop_fit (not t) (take (length s - n) (drop n s))) ≡ worse x (loop_fit t s)
+-- with n what was read as the first loop's size, a the loop, b the rest, and y what the reader gave for what it holds
+pub loops_on : (t : Bool) (s a b : List ℕ) (x y : Fit) (n : ℕ) → n ≡ loop_size s → n ≤ length s → a ≡ take n s → b ≡ drop n s
+    → y ≡ worse x (descriptor_fit (take (length a - 2) (drop 2 a))) → worse y (loop_fit (not t) b) ≡ worse x (loop_fit t s)
 unfolding loop_fit descriptor_fit every
-loops_on t s x y n f h e =
+loops_on t s a b x y n f h i g e =
     let l : loop_size s ≤ length s = omega arith in
-    rw (from, e, ← drop_take 2 n s, f, loops_more s l, turn_more t)
+    rw (g, e, from, i, f, loops_more s l, turn_more t)
     (worse_again x _ _ ∙ ap (worse x) (worse_both (filled (content (take (loop_size s) s))) (fits_by (not t) (cut_of loop_size (drop (loop_size s) s)))
     (known (content (take (loop_size s) s))) (every (λ m. known (content m)) (cut_of loop_size (drop (loop_size s) s)).items)))
 

@@ -18,7 +18,7 @@ use Rattle.wire.specs.Part.{part}
 use Rattle.notification_rules.specs.Cut.{Cut, cut_of, stop, more, is_nil, any, odd, from_offset}
 use Rattle.notification_rules.specs.Loop.{loop_size, descriptor_size, content, Pair, pairs_of, descriptors_of, descriptor_items}
 use Rattle.notification_rules.specs.Target.{is_cover, cover_of, covers, hit, entry_size, entry_bytes, first_pair}
-use Rattle.wire.proofs.Lists.{from}
+use Rattle.std.specs.List.{IsSplitAt}
 use Rattle.notification_rules.proofs.Cuts.{nil_true, nil_false, nil_length}
 use Rattle.notification_rules.proofs.Items.{loop_two, loops_stop, loops_more, stops, goes_on, descriptors_stop, descriptors_more, covered_any}
 use Rattle.notification.proofs.Fits.{drop_take}
@@ -214,19 +214,19 @@ module _ (device : Address) (s : List ℕ) (n : ℕ) (e : n ≡ descriptor_size 
   unfolding any
   no_descriptor h = ap (λ (c : Cut). any (covers device) c.items) (descriptors_stop s (omega arith))
 
-  one_descriptor : n ≤ length s → any (covers device) (descriptor_items s)
-      ≡ pick (covers device (take n s)) true (any (covers device) (descriptor_items (drop n s)))
-  unfolding any
-  one_descriptor h = rw e (ap (λ (c : Cut). any (covers device) c.items) (descriptors_more s (omega arith)))
+  module _ (d b : List ℕ) (h : IsSplitAt s n d b) where
+    one_descriptor : any (covers device) (descriptor_items s) ≡ pick (covers device d) true (any (covers device) (descriptor_items b))
+    unfolding any
+    one_descriptor =
+        rw (h.1, h.2, e) (ap (λ (c : Cut). any (covers device) c.items) (descriptors_more s (omega (arith, h.0))))
 
-  pub descriptor_hit : n ≤ length s → covers device (take n s) ≡ true → any (covers device) (descriptor_items s) ≡ true
-  unfolding pick
-  descriptor_hit h z = rw (one_descriptor h, z)
+    pub descriptor_hit : covers device d ≡ true → any (covers device) (descriptor_items s) ≡ true
+    unfolding pick
+    descriptor_hit z = rw (one_descriptor, z)
 
-  pub descriptor_miss : n ≤ length s → covers device (take n s) ≡ false
-      → any (covers device) (descriptor_items (take (length s - n) (drop n s))) ≡ any (covers device) (descriptor_items s)
-  unfolding pick
-  descriptor_miss h z = rw (from, one_descriptor h, z)
+    pub descriptor_miss : covers device d ≡ false → any (covers device) (descriptor_items b) ≡ any (covers device) (descriptor_items s)
+    unfolding pick
+    descriptor_miss z = rw (one_descriptor, z)
 
 -- ---- entries of a descriptor, of which x stands at the front of what is left, a, and b after it
 module _ (device : Address) (d : List ℕ) (n : ℕ) (g : 0 < n) where

@@ -11,10 +11,12 @@ use Rattle.notification_rules.specs.Answers.{Finding, Found, Nobody, Refused}
 use Rattle.notification_rules.specs.Cut.{Cut, cut_of, is_nil, every, odd, from_offset}
 use Rattle.rules.specs.Section.{checked}
 use Rattle.notification_rules.specs.Loop.{loop_size, descriptor_size, platform_offset, content, filled, Pair, pairs_of, descriptor_items, descriptors_of}
-use Rattle.notification_rules.specs.Target.{is_cover, cover_of, right_length, Location, nowhere, somewhere, located, is_location, first_pair}
+use Rattle.notification_rules.specs.Target.{mac_address, mac_address_range, stream_location, is_cover, cover_of, right_length, Location, nowhere, somewhere, located, is_location, first_pair}
 use Rattle.notification_rules.specs.Finding.{known, finding_of}
 use Rattle.notification.specs.declared.loops.Fit.{Fit}
 use Rattle.notification.specs.declared.loops.Fit.TheVariants.{Exact, OtherLength, Misfit}
+use Rattle.notification.specs.declared.loops.Kind.{Kind}
+use Rattle.notification.specs.declared.loops.Kind.TheVariants as kind
 use Rattle.notification.specs.declared.location.Choice.{Choice}
 use Rattle.notification.specs.declared.location.Choice.TheVariants.{Own, Platform}
 
@@ -44,6 +46,13 @@ fits_by turn c = both (is_nil c.left) (both (pick turn (odd c.items) (not (odd c
 
 unfoldable pub loop_fit : Bool → List ℕ → Fit
 loop_fit turn s = fit_of (fits_by turn (cut_of loop_size s)) (every (λ l. known (content l)) (cut_of loop_size s).items)
+
+-- ---- the kind that a tag says
+abbrev pub IsKind : Kind → ℕ → Type 0
+IsKind kind.Addresses t = t ≡ mac_address
+IsKind kind.Ranges t = t ≡ mac_address_range
+IsKind kind.Location t = t ≡ stream_location
+IsKind kind.Other t = (t ≡ mac_address → ⊥) × (t ≡ mac_address_range → ⊥) × (t ≡ stream_location → ⊥)
 
 -- ---- a slice without its first k bytes
 pub record After (s : Bor (List ℕ)) (k : ℕ) (r : Bor (List ℕ)) : Type 0 where

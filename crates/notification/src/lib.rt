@@ -15,10 +15,9 @@ ghost use Rattle.notification_rules.specs.Told.{finding_told, Answered};
 ghost use Rattle.notification.specs.Readers.{Holds, Turns, StopsAt, Tells, Locates, told_at};
 
 use location::{Choice, choose, has_location, pick};
-use loops::{Fit, after, descriptor_size, loop_size, operational_loop};
+use loops::{Fit, Kind, after, descriptor_size, loop_size, operational_loop};
 use rules::{Address, Form, Refusal};
 use section_fields::checked;
-use target::{entry_bytes, entry_size, hit};
 use wire::byte_at;
 
 // The form of this table's sections; private_indicator is not looked at.
@@ -89,7 +88,7 @@ fn loop_at<'a>(s: &'a [u8], offset: usize) -> &'a [u8]
 
 // The offset of the first pair that covers the device and has a location, or the end; `general` says that the platform loop has one. A loop
 // over the pairs and one over the addresses, left by label at the first hit, are promised (docs/PROMISES.md), and so no chain of iterators.
-#[tactic(auto, using(crate::proofs::Pairs::first_whole, crate::proofs::Pairs::second_whole, crate::proofs::Pairs::pair_whole, crate::proofs::Pairs::ends, notification_rules::proofs::Items::descriptor_two, notification_rules::proofs::Items::entry_some, wire::proofs::Lists::from))]
+#[tactic(auto, using(crate::proofs::Pairs::first_whole, crate::proofs::Pairs::second_whole, crate::proofs::Pairs::pair_whole, crate::proofs::Pairs::ends, notification_rules::proofs::Items::descriptor_two))]
 fn search(device: Address, s: &[u8], from: usize, general: bool) -> usize
     requires { Turns s.now from }
     ensures { StopsAt device general s.now from result }
@@ -102,20 +101,19 @@ fn search(device: Address, s: &[u8], from: usize, general: bool) -> usize
             if target.len() == 0 {
                 break 'pairs;
             }
+            // Each descriptor is as long as its own second byte says, and no iterator of slices cuts so: cut one, go on with the rest.
             let mut rest = target;
-            'descriptors: loop {
-                let size = descriptor_size(rest);
-                if rest.len() < size {
-                    break 'descriptors;
-                }
-                let descriptor = &rest[..size];
-                let step = entry_size(byte_at(descriptor, 0));
-                'addresses: for entry in entry_bytes(descriptor).chunks_exact(step) {
-                    if hit(device, descriptor, entry) {
+            'descriptors: while let Some((descriptor, next)) = rest.split_at_checked(
+                descriptor_size(rest),
+            ) {
+                let kind = Kind::from(byte_at(descriptor, 0));
+                let step = kind.entry_size();
+                'addresses: for entry in kind.entry_bytes(descriptor).chunks_exact(step) {
+                    if kind.hit(device, descriptor, entry) {
                         break 'pairs;
                     }
                 }
-                rest = &rest[size..];
+                rest = next;
             }
         }
         offset = offset + 4 + target.len() + operational.len();
@@ -154,7 +152,8 @@ pub fn read<'a>(device: Address, s: &'a [u8]) -> Result<Option<&'a [u8]>, Refusa
     }
 }
 
-// The offset of the nine bytes of the pair whose operational loop stands at `pair`.
+// The offset of the nine bytes of the pair whose operational loop stands at `pair`. Beside `pick`, whose form is promised (docs/PROMISES.md):
+// it hands back a part, which says nothing of where it stands to a foreign caller, and so the same choice gives its offset here.
 #[tactic(auto, unfolding(notification_rules::specs::Told::finding_told), using(crate::proofs::Answers::told_is))]
 fn nine_offset(head: &[u8], pair: usize) -> Option<usize>
     requires { Locates head.now pair }
@@ -167,7 +166,7 @@ fn nine_offset(head: &[u8], pair: usize) -> Option<usize>
     }
 }
 
-// The same, with the offset of the nine bytes: for callers to whom no part can be handed back.
+// The same, with the offset of the nine bytes: beside `read`, as a foreign caller cannot be handed a part.
 #[tactic(auto, unfolding(notification_rules::specs::Told::finding_told), using(crate::proofs::Answers::pair_answers))]
 pub fn finding(device: Address, s: &[u8]) -> Result<Option<usize>, Refusal>
     ensures { finding_told result ≡ finding_of device s.now }

@@ -2,7 +2,7 @@
 ghost use Rattle.std.specs.Prelude.{◌≡◌};
 ghost use Rattle.notification.specs.Readers.{Reaches, Has, choice_of, Nine, Picked};
 
-use crate::loops::{after, descriptor_size};
+use crate::loops::{Kind, after, descriptor_size};
 use wire::byte_at;
 
 // Which of two loops has the location, and where in what it holds the nine bytes begin.
@@ -12,19 +12,17 @@ pub enum Choice {
     Platform(usize),
 }
 
-// A loop from its first 0x13 on.
-#[tactic(auto, using(crate::proofs::Locations::reaches_end, crate::proofs::Locations::reaches_here, crate::proofs::Locations::reaches_more, notification_rules::proofs::Items::descriptor_two, wire::proofs::Lists::from))]
+// A loop from its first 0x13 on. It calls itself on the rest, as the reader of descriptors does (`descriptor_loop`): how far it goes on stands
+// in the bytes, and no iterator of slices cuts so.
+#[tactic(auto, using(crate::proofs::Locations::reaches_end, crate::proofs::Locations::reaches_here, crate::proofs::Locations::reaches_more, notification_rules::proofs::Items::descriptor_two))]
 fn from_location<'a>(s: &'a [u8]) -> Option<&'a [u8]>
     ensures { Reaches s.now result }
 {
-    let size = descriptor_size(s);
-    if s.len() < size {
-        return None;
-    }
-    if byte_at(s, 0) == 0x13 {
+    let (_, rest) = s.split_at_checked(descriptor_size(s))?;
+    if Kind::from(byte_at(s, 0)) == Kind::Location {
         return Some(s);
     }
-    from_location(&s[size..])
+    from_location(rest)
 }
 
 // A loop has a 0x13.
@@ -47,7 +45,7 @@ pub fn choose(operational: &[u8], platform: &[u8]) -> Option<Choice>
     Some(Choice::Platform(platform.len() - general.len() + 2))
 }
 
-// Nine bytes from an offset on, if there are as many.
+// Nine bytes from an offset on, if there are as many. Cut by an index: `get` and `split_at_checked` do not say where a part stands.
 fn nine<'a>(s: &'a [u8], offset: usize) -> Option<&'a [u8]>
     ensures { Nine s.entry offset result }
 {

@@ -3,7 +3,7 @@ ghost use Rattle.std.specs.Prelude.{true, false, ◌≡◌};
 ghost use Rattle.wire.specs.Bytes.{Reads};
 ghost use Rattle.notification_rules.specs.Loop.{loop_size, descriptor_size};
 ghost use Rattle.notification_rules.specs.Target.{right_length};
-ghost use Rattle.notification.specs.Readers.{worse, length_fit, descriptor_fit, loop_fit, After};
+ghost use Rattle.notification.specs.Readers.{IsKind, worse, length_fit, descriptor_fit, loop_fit, After};
 
 use wire::byte_at;
 
@@ -14,6 +14,28 @@ pub enum Fit {
     Exact,
     OtherLength,
     Misfit,
+}
+
+// What a descriptor's tag says that it holds: addresses under a mask (0x07), ranges of them (0x0E), a stream's location (0x13), or else.
+#[derive(Clone, Copy, PartialEq, Eq)]
+pub enum Kind {
+    Addresses,
+    Ranges,
+    Location,
+    Other,
+}
+
+impl From<u8> for Kind {
+    ghost from_gives = { λ tag kind. IsKind kind tag };
+
+    fn from(tag: u8) -> Kind {
+        match tag {
+            0x07 => Kind::Addresses,
+            0x0e => Kind::Ranges,
+            0x13 => Kind::Location,
+            _ => Kind::Other,
+        }
+    }
 }
 
 // The bytes that the loop at the front takes.
@@ -29,7 +51,7 @@ pub fn loop_size(s: &[u8]) -> usize
 pub fn descriptor_size(s: &[u8]) -> usize
     ensures { Reads (descriptor_size s.now) 258 result }
 {
-    2 + byte_at(s, 1) as usize
+    2 + usize::from(byte_at(s, 1))
 }
 
 // A descriptor with this tag may have n bytes.
@@ -37,11 +59,11 @@ pub fn descriptor_size(s: &[u8]) -> usize
 fn right_length(tag: u8, n: u8) -> bool
     ensures { result ≡ right_length tag n }
 {
-    match tag {
-        0x07 => 6 <= n && n % 6 == 0,
-        0x0e => n % 12 == 0,
-        0x13 => n == 9,
-        _ => true,
+    match Kind::from(tag) {
+        Kind::Addresses => 6 <= n && n % 6 == 0,
+        Kind::Ranges => n % 12 == 0,
+        Kind::Location => n == 9,
+        Kind::Other => true,
     }
 }
 
@@ -57,48 +79,44 @@ fn with_descriptor(fit: Fit, tag: u8, n: u8) -> Fit
 }
 
 // `fit` after the descriptors up to the end of a loop. That it calls itself on the rest is promised (docs/PROMISES.md).
-#[tactic(auto, using(crate::proofs::Fits::fit_end, crate::proofs::Fits::fit_stop, crate::proofs::Fits::fit_more, notification_rules::proofs::Items::descriptor_two, wire::proofs::Lists::from))]
+#[tactic(auto, using(crate::proofs::Fits::fit_end, crate::proofs::Fits::fit_stop, crate::proofs::Fits::fit_more, notification_rules::proofs::Items::descriptor_two))]
 fn descriptor_loop(s: &[u8], fit: Fit) -> Fit
     ensures { result ≡ worse fit (descriptor_fit s.now) }
 {
     if s.len() == 0 {
         return fit;
     }
-    let size = descriptor_size(s);
-    if s.len() < size {
+    let Some((_, rest)) = s.split_at_checked(descriptor_size(s)) else {
         return Fit::Misfit;
-    }
-    let next = with_descriptor(fit, byte_at(s, 0), byte_at(s, 1));
-    descriptor_loop(&s[size..], next)
+    };
+    descriptor_loop(rest, with_descriptor(fit, byte_at(s, 0), byte_at(s, 1)))
 }
 
 // `fit` after a target loop and what follows it, up to the end. That these two call each other by turns is promised (docs/PROMISES.md).
 #[cycle(operational_loop_target_loop)]
-#[tactic(auto, using(crate::proofs::Fits::loops_end, crate::proofs::Fits::loops_short, crate::proofs::Fits::loops_on, notification_rules::proofs::Items::loop_two, wire::proofs::Lists::from))]
+#[tactic(auto, using(crate::proofs::Fits::loops_end, crate::proofs::Fits::loops_short, crate::proofs::Fits::loops_on, notification_rules::proofs::Items::loop_two))]
 fn target_loop(s: &[u8], fit: Fit) -> Fit
     ensures { result ≡ worse fit (loop_fit false s.now) }
 {
     if s.len() == 0 {
         return fit;
     }
-    let size = loop_size(s);
-    if s.len() < size {
+    let Some((target, rest)) = s.split_at_checked(loop_size(s)) else {
         return Fit::Misfit;
-    }
-    operational_loop(&s[size..], descriptor_loop(&s[2..size], fit))
+    };
+    operational_loop(rest, descriptor_loop(&target[2..], fit))
 }
 
 // `fit` after an operational loop, which has to be there, and what follows it; the platform loop is read in the same way.
 #[cycle(operational_loop_target_loop)]
-#[tactic(auto, using(crate::proofs::Fits::loops_missing, crate::proofs::Fits::loops_on, notification_rules::proofs::Items::loop_two, wire::proofs::Lists::from))]
+#[tactic(auto, using(crate::proofs::Fits::loops_missing, crate::proofs::Fits::loops_on, notification_rules::proofs::Items::loop_two))]
 pub fn operational_loop(s: &[u8], fit: Fit) -> Fit
     ensures { result ≡ worse fit (loop_fit true s.now) }
 {
-    let size = loop_size(s);
-    if s.len() < size {
+    let Some((operational, rest)) = s.split_at_checked(loop_size(s)) else {
         return Fit::Misfit;
-    }
-    target_loop(&s[size..], descriptor_loop(&s[2..size], fit))
+    };
+    target_loop(rest, descriptor_loop(&operational[2..], fit))
 }
 
 // What stands after the first k bytes; nothing where there are not as many.

@@ -1,11 +1,12 @@
 // The descriptors of a target loop (EN 301 192, tables 24 and 25): whether one of their entries covers a device.
-ghost use Rattle.std.specs.Prelude.{◌≡◌};
+ghost use Rattle.std.specs.Prelude.{◌≡◌, ◌<◌, ℕ};
+ghost use Rattle.wire.specs.Bytes.{byte_at};
 ghost use Rattle.notification_rules.specs.Target.{address_number, same_under, entry_size, entry_bytes, hit};
+ghost use Rattle.notification.specs.Readers.{IsKind};
 
-use crate::loops::after;
+use crate::loops::{Kind, after};
 use crate::range::{address_at, in_range};
 use rules::Address;
-use wire::byte_at;
 
 // The address as a number of 48 bits.
 #[tactic(auto, unfolding(notification_rules::specs::Target::address_number, wire::specs::Bytes::number_at))]
@@ -24,33 +25,41 @@ fn same_under(device: Address, mask: &[u8], e: &[u8]) -> bool
     address_number(address_at(e, 0)) & bits == address_number(device) & bits
 }
 
-// The bytes of an entry: an address, or a lowest and a highest address.
-#[tactic(auto, unfolding(notification_rules::specs::Target::entry_size, wire::specs::Choice::pick))]
-pub fn entry_size(tag: u8) -> usize
-    ensures { result ≡ entry_size tag }
-{
-    if tag == 0x07 { 6 } else { 12 }
-}
-
-// The entries of a descriptor; other tags than 0x07 and 0x0E have none.
-#[tactic(auto, unfolding(notification_rules::specs::Target::entry_bytes, wire::specs::Choice::pick))]
-pub fn entry_bytes<'a>(d: &'a [u8]) -> &'a [u8]
-    ensures { result.now ≡ entry_bytes d.now }
-{
-    match byte_at(d, 0) {
-        0x07 => after(d, 8),
-        0x0e => after(d, 2),
-        _ => &d[..0],
+impl Kind {
+    // The bytes of an entry: an address, or a lowest and a highest address.
+    #[tactic(auto, unfolding(notification_rules::specs::Target::entry_size, wire::specs::Choice::pick))]
+    pub fn entry_size(self) -> usize
+        ensures is { (t : ℕ) → IsKind self t → result ≡ entry_size t }
+        ensures some { 0 < result }
+    {
+        match self {
+            Kind::Addresses => 6,
+            _ => 12,
+        }
     }
-}
 
-// The entry e of the descriptor d covers the device.
-#[tactic(auto, unfolding(notification_rules::specs::Target::hit, wire::specs::Choice::pick))]
-pub fn hit(device: Address, d: &[u8], e: &[u8]) -> bool
-    ensures { result ≡ hit device d.now e.now }
-{
-    if byte_at(d, 0) == 0x07 {
-        return same_under(device, after(d, 2), e);
+    // The entries of a descriptor; those of other kinds have none.
+    #[tactic(auto, unfolding(notification_rules::specs::Target::entry_bytes, wire::specs::Choice::pick))]
+    pub fn entry_bytes<'a>(self, d: &'a [u8]) -> &'a [u8]
+        requires { IsKind self (byte_at d.now 0) }
+        ensures { result.now ≡ entry_bytes d.now }
+    {
+        match self {
+            Kind::Addresses => after(d, 8),
+            Kind::Ranges => after(d, 2),
+            _ => &d[..0],
+        }
     }
-    in_range(device, e)
+
+    // The entry e of the descriptor d covers the device.
+    #[tactic(auto, unfolding(notification_rules::specs::Target::hit, wire::specs::Choice::pick))]
+    pub fn hit(self, device: Address, d: &[u8], e: &[u8]) -> bool
+        requires { IsKind self (byte_at d.now 0) }
+        ensures { result ≡ hit device d.now e.now }
+    {
+        match self {
+            Kind::Addresses => same_under(device, after(d, 2), e),
+            _ => in_range(device, e),
+        }
+    }
 }
