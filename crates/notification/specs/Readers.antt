@@ -11,7 +11,8 @@ use Rattle.notification_rules.specs.Answers.{Finding, Found, Nobody, Refused}
 use Rattle.notification_rules.specs.Cut.{Cut, cut_of, is_nil, every, odd, from_offset}
 use Rattle.rules.specs.Section.{checked}
 use Rattle.notification_rules.specs.Loop.{loop_size, descriptor_size, platform_offset, content, filled, Pair, pairs_of, descriptor_items, descriptors_of}
-use Rattle.notification_rules.specs.Target.{mac_address, mac_address_range, stream_location, is_cover, cover_of, right_length, Location, nowhere, somewhere, located, is_location, first_pair}
+use Rattle.notification_rules.specs.Target.{mac_address, mac_address_range, stream_location}
+use Rattle.notification_rules.specs.Target.{is_cover, cover_of, right_length, Location, nowhere, somewhere, located, is_location, first_pair}
 use Rattle.notification_rules.specs.Finding.{known, finding_of}
 use Rattle.notification.specs.declared.loops.Fit.{Fit}
 use Rattle.notification.specs.declared.loops.Fit.TheVariants.{Exact, OtherLength, Misfit}
