@@ -12,17 +12,20 @@ pub enum Choice {
     Platform(usize),
 }
 
-// A loop from its first 0x13 on. It calls itself on the rest, as the reader of descriptors does (`descriptor_loop`): how far it goes on stands
-// in the bytes, and no iterator of slices cuts so.
+// A loop from its first 0x13 on: a `while let`, since how far it goes on stands in the bytes, and no iterator of slices cuts so. It does not call
+// itself, as the reader of descriptors does: an Option of a slice is handed back through memory, so that each call would keep its place on the stack.
 #[tactic(auto, using(crate::proofs::Locations::reaches_end, crate::proofs::Locations::reaches_here, crate::proofs::Locations::reaches_more, notification_rules::proofs::Items::descriptor_two))]
 fn from_location<'a>(s: &'a [u8]) -> Option<&'a [u8]>
     ensures { Reaches s.now result }
 {
-    let (_, rest) = s.split_at_checked(descriptor_size(s))?;
-    if Kind::from(byte_at(s, 0)) == Kind::Location {
-        return Some(s);
+    let mut rest = s;
+    while let Some((_, next)) = rest.split_at_checked(descriptor_size(rest)) {
+        if Kind::from(byte_at(rest, 0)) == Kind::Location {
+            return Some(rest);
+        }
+        rest = next;
     }
-    from_location(rest)
+    None
 }
 
 // A loop has a 0x13.
