@@ -38,9 +38,12 @@ fn word(x: u32) -> [u8; 8]
     ]
 }
 
-// A line of CRC_32: a name and the value over some bytes.
+// A line of CRC_32: a name and the value over some bytes. Each word is a write of its own, so that, where an output takes no more, the words before
+// that are out.
 fn crc_line(rt: &impl Print, name: &str, bytes: &[u8]) -> io::Result<()> {
-    print!(rt; "crc_32 {name} ")?;
+    print!(rt; "crc_32 ")?;
+    print!(rt; "{name}")?;
+    print!(rt; " ")?;
     rt.write_all(&word(crc::crc_32(bytes)))?;
     println!(rt)
 }
@@ -73,7 +76,12 @@ fn send_line(
         return Ok(());
     };
     let count = offer_count(&out[..total]);
-    println!(rt; "send {} {size} {count} {total}", unit.len())
+    print!(rt; "send")?;
+    for n in [unit.len(), size, count, total] {
+        print!(rt; " ")?;
+        print!(rt; "{n}")?;
+    }
+    println!(rt)
 }
 
 // Tables of an MPEG-2 multiplex as FFmpeg writes them: the program association section of one service, and the program map section
