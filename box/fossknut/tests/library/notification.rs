@@ -84,6 +84,25 @@ fn as_many_descriptors_as_can_be() {
     }
 }
 
+/// The stack that the reader takes does not grow with the section: as many descriptors, in a thread
+/// of 64 KiB.
+#[test]
+fn as_many_descriptors_in_a_small_stack() {
+    let empty = descriptor(0x80, &[]);
+    let before = [&empty.repeat(2_031)[..], LOCATION].concat();
+    for (loops, located) in [
+        (vec![empty.repeat(2_039)], false),
+        (vec![vec![], empty.repeat(2_037), vec![]], false),
+        (vec![vec![], vec![], empty.repeat(2_037)], false),
+        (vec![vec![], vec![], before], true),
+    ] {
+        let section = with_loops(&loops);
+        let reader = move || notification::read(OURS, &section).unwrap().is_some();
+        let thread = std::thread::Builder::new().stack_size(64 * 1024);
+        assert_eq!(thread.spawn(reader).unwrap().join().unwrap(), located);
+    }
+}
+
 /// As many empty pairs as a section can have, and as many as can stand before one with a location.
 #[test]
 fn as_many_pairs_as_can_be() {
