@@ -29,9 +29,9 @@ pub record Ended (c : Settings) (w : Walk) (q : Result Unit Failure) (r : Walk) 
   pub walked : Walked c w left q r
   pub ends : Offered r.input ⊎ ((is_err q ≡ true) ⊎ (left ≡ 0))
 
--- the input has not ended, by a read that failed or without
+-- the input has not ended, by a read that failed or without, and nothing is at hand
 abbrev pub Fresh : Walk → Type 0
-Fresh w = has_ended w.input.rest ≡ false
+Fresh w = (has_ended w.input.rest ≡ false) × (w.input.end ≡ 0)
 
 -- what has failed, where the writes answered q: the input, where both have, since nothing is read after a write that failed
 unfoldable pub failure_of : Walk → Result Unit Failure → Result Unit Failure
