@@ -1,30 +1,31 @@
 // The paper's numbers of the receiver's and the sender's answers, and the length that goes with each, for callers such as C that have no enums.
+// Of an error only its number is asked, so that a caller who keeps refusals as numbers (`u8`) gives them as they are.
 #![tactic(auto)]
 
-ghost use Rattle.std.specs.Prelude.{◌≡◌};
+ghost use Rattle.std.specs.Prelude.{◌≡◌, MatchResult, Ok};
 ghost use Rattle.rules.specs.Send.{sending_number, sending_length};
 ghost use Rattle.rules.specs.Step.{number_of, length_of};
 ghost use Rattle.rules.specs.Told.{answer_told, sending_told};
 
-use rules::{Reception, Refusal};
+use rules::Reception;
 
 // The number of a receiver's answer.
 #[tactic(auto, unfolding(rules::specs::Step::number_of, rules::specs::Told::answer_told))]
-pub fn number_of(answer: Result<Reception, Refusal>) -> u8
-    ensures { result ≡ number_of (answer_told answer) }
+pub fn number_of<E: Into<u8>>(answer: Result<Reception, E>) -> u8
+    ensures { MatchResult answer (λ reception. result ≡ number_of (answer_told (Ok reception))) (λ refusal. E.converts refusal result) }
 {
     match answer {
         Ok(Reception::Delivered(_)) => 0,
         Ok(Reception::Stored) => 1,
         Ok(Reception::PassedBy) => 2,
-        Err(refusal) => u8::from(refusal),
+        Err(refusal) => refusal.into(),
     }
 }
 
 // The unit length that a receiver's answer carries.
 #[tactic(auto, unfolding(rules::specs::Step::length_of, rules::specs::Told::answer_told))]
-pub fn length_of(answer: Result<Reception, Refusal>) -> usize
-    ensures { result ≡ length_of (answer_told answer) }
+pub fn length_of<E: Drop>(answer: Result<Reception, E>) -> usize
+    ensures { MatchResult answer (λ reception. result ≡ length_of (answer_told (Ok reception))) (λ _. result ≡ 0) }
 {
     match answer {
         Ok(Reception::Delivered(length)) => length,
@@ -36,19 +37,19 @@ pub fn length_of(answer: Result<Reception, Refusal>) -> usize
 
 // The number of a sender's answer.
 #[tactic(auto, unfolding(rules::specs::Send::sending_number, rules::specs::Told::sending_told))]
-pub fn sending_number(sending: Result<usize, Refusal>) -> u8
-    ensures { result ≡ sending_number (sending_told sending) }
+pub fn sending_number<E: Into<u8>>(sending: Result<usize, E>) -> u8
+    ensures { MatchResult sending (λ length. result ≡ sending_number (sending_told (Ok length))) (λ unsent. E.converts unsent result) }
 {
     match sending {
         Ok(_) => 0,
-        Err(unsent) => u8::from(unsent),
+        Err(unsent) => unsent.into(),
     }
 }
 
 // The total length that a sender's answer gives.
 #[tactic(auto, unfolding(rules::specs::Send::sending_length, rules::specs::Told::sending_told))]
-pub fn sending_length(sending: Result<usize, Refusal>) -> usize
-    ensures { result ≡ sending_length (sending_told sending) }
+pub fn sending_length<E: Drop>(sending: Result<usize, E>) -> usize
+    ensures { MatchResult sending (λ length. result ≡ sending_length (sending_told (Ok length))) (λ _. result ≡ 0) }
 {
     sending.unwrap_or(0)
 }

@@ -5,6 +5,7 @@ use Rattle.rules.proofs.Told.{refusal_number_same, sending_same, step_same}
 use Rattle.notification_rules.proofs.Told.{finding_same, read_same}
 use Rattle.pes_rules.proofs.Told.{told_injective}
 use Rattle.demands.specs.Tight.{Tight}
+use Rattle.demands.proofs.Numbers.{numbers}
 
 pub tight : Tight
 tight =
@@ -52,12 +53,18 @@ tight =
       pes_refusal_number = λ κs a z y e d p q. p ∙ sym q;
       pes_read = λ κs a z y e d p q. told_injective z y (p ∙ sym q);
       pes_data = λ κs a z y e d p q. (p.bytes ∙ sym q.bytes, p.block ∙ sym q.block, p.offset ∙ sym q.offset);
-      number_of = λ κs a z y e d p q. p ∙ sym q;
-      length_of = λ κs a z y e d p q. p ∙ sym q;
-      sending_number = λ κs a z y e d p q. p ∙ sym q;
-      sending_length = λ κs a z y e d p q. p ∙ sym q;
-      finding_number = λ κs a z y e d p q. p ∙ sym q;
-      finding_offset = λ κs a z y e d p q. p ∙ sym q;
+      number_of = λ κs a z y e d p q. numbers.number_of κs a z e p ∙ sym (numbers.number_of κs a y d q);
+      length_of = λ κs a z y e d p q. numbers.length_of κs a z e p ∙ sym (numbers.length_of κs a y d q);
+      sending_number = λ κs a z y e d p q. numbers.sending_number κs a z e p ∙ sym (numbers.sending_number κs a y d q);
+      sending_length = λ κs a z y e d p q. numbers.sending_length κs a z e p ∙ sym (numbers.sending_length κs a y d q);
+      finding_number = λ κs a z y e d p q. numbers.finding_number κs a z e p ∙ sym (numbers.finding_number κs a y d q);
+      finding_offset = λ κs a z y e d p q. numbers.finding_offset κs a z e p ∙ sym (numbers.finding_offset κs a y d q);
+      number_of_bare = λ κs a z y e d p q. numbers.number_of_bare κs a z e p ∙ sym (numbers.number_of_bare κs a y d q);
+      length_of_bare = λ κs a z y e d p q. numbers.length_of_bare κs a z e p ∙ sym (numbers.length_of_bare κs a y d q);
+      sending_number_bare = λ κs a z y e d p q. numbers.sending_number_bare κs a z e p ∙ sym (numbers.sending_number_bare κs a y d q);
+      sending_length_bare = λ κs a z y e d p q. numbers.sending_length_bare κs a z e p ∙ sym (numbers.sending_length_bare κs a y d q);
+      finding_number_bare = λ κs a z y e d p q. numbers.finding_number_bare κs a z e p ∙ sym (numbers.finding_number_bare κs a y d q);
+      finding_offset_bare = λ κs a z y e d p q. numbers.finding_offset_bare κs a z e p ∙ sym (numbers.finding_offset_bare κs a y d q);
       address_of = λ κs a z y e d p q. p ∙ sym q;
       settings_of = λ κs a z y e d p q. p ∙ sym q;
       state_of = λ κs a z y e d p q. p ∙ sym q;

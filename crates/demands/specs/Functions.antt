@@ -1,5 +1,6 @@
 -- The real contract of each open function, under one name: its parameters, its result, and what a caller learns.
 use Rattle.demands.specs.Allowed.{Function, function}
+use Rattle.demands.specs.Errors.{Errors}
 use Rattle.wire.proofs as wire
 use Rattle.rules.proofs as rules
 use Rattle.crc.proofs as crc
@@ -148,23 +149,24 @@ pes_read = function pes.read.Kinds.ps pes.read.Kinds.r pes.read.Reads.Learnt
 abbrev pub pes_data : Function
 pes_data = function pes.data.Kinds.ps pes.data.Kinds.r pes.data.Reads.Learnt
 
-abbrev pub number_of : Function
-number_of = function answer_numbers.number_of.Kinds.ps answer_numbers.number_of.Kinds.r answer_numbers.number_of.Reads.Learnt
+-- these take whatever stands for a refusal
+abbrev pub number_of : Errors → Function
+number_of E = function (answer_numbers.number_of.Kinds.ps E.row E.laws) (answer_numbers.number_of.Kinds.r E.row E.laws) (answer_numbers.number_of.Reads.Learnt E.row E.laws E.number E.code)
 
-abbrev pub length_of : Function
-length_of = function answer_numbers.length_of.Kinds.ps answer_numbers.length_of.Kinds.r answer_numbers.length_of.Reads.Learnt
+abbrev pub length_of : Errors → Function
+length_of E = function (answer_numbers.length_of.Kinds.ps E.row E.laws) (answer_numbers.length_of.Kinds.r E.row E.laws) (answer_numbers.length_of.Reads.Learnt E.row E.laws E.code)
 
-abbrev pub sending_number : Function
-sending_number = function answer_numbers.sending_number.Kinds.ps answer_numbers.sending_number.Kinds.r answer_numbers.sending_number.Reads.Learnt
+abbrev pub sending_number : Errors → Function
+sending_number E = function (answer_numbers.sending_number.Kinds.ps E.row E.laws) (answer_numbers.sending_number.Kinds.r E.row E.laws) (answer_numbers.sending_number.Reads.Learnt E.row E.laws E.number E.code)
 
-abbrev pub sending_length : Function
-sending_length = function answer_numbers.sending_length.Kinds.ps answer_numbers.sending_length.Kinds.r answer_numbers.sending_length.Reads.Learnt
+abbrev pub sending_length : Errors → Function
+sending_length E = function (answer_numbers.sending_length.Kinds.ps E.row E.laws) (answer_numbers.sending_length.Kinds.r E.row E.laws) (answer_numbers.sending_length.Reads.Learnt E.row E.laws E.code)
 
-abbrev pub finding_number : Function
-finding_number = function notification_numbers.finding_number.Kinds.ps notification_numbers.finding_number.Kinds.r notification_numbers.finding_number.Reads.Learnt
+abbrev pub finding_number : Errors → Function
+finding_number E = function (notification_numbers.finding_number.Kinds.ps E.row E.laws) (notification_numbers.finding_number.Kinds.r E.row E.laws) (notification_numbers.finding_number.Reads.Learnt E.row E.laws E.number E.code)
 
-abbrev pub finding_offset : Function
-finding_offset = function notification_numbers.finding_offset.Kinds.ps notification_numbers.finding_offset.Kinds.r notification_numbers.finding_offset.Reads.Learnt
+abbrev pub finding_offset : Errors → Function
+finding_offset E = function (notification_numbers.finding_offset.Kinds.ps E.row E.laws) (notification_numbers.finding_offset.Kinds.r E.row E.laws) (notification_numbers.finding_offset.Reads.Learnt E.row E.laws E.code)
 
 abbrev pub address_of : Function
 address_of = function caller_numbers.address_of.Kinds.ps caller_numbers.address_of.Kinds.r caller_numbers.address_of.Reads.Learnt

@@ -1,9 +1,11 @@
 pub mod Allowed
+pub mod Errors
 pub mod Functions
 pub mod Abroad
 pub mod Demand1
 pub mod Demand2
 pub mod Demand3
+pub mod Numbers
 pub mod Readers
 pub mod Samples
 pub mod SmallByDefault

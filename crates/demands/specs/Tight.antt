@@ -5,6 +5,7 @@ use Rattle.std.specs.Borrow.{Bor}
 use Rattle.notification_rules.specs.Told.{SameRead}
 use Rattle.demands.specs.Abroad.{default_gave, gap_gave, offset_gave, packet_gave, receive_gave, send_gave}
 use Rattle.demands.specs.Allowed.{AnyTwo, Function}
+use Rattle.demands.specs.Errors.{refusals, numbers}
 use Rattle.demands.specs.Functions as contracts
 
 -- results z and y are equal
@@ -81,13 +82,19 @@ pub record Tight : Type 0 where
   pub pes_read : OneResult contracts.pes_read
   pub pes_data : AnyTwo contracts.pes_data
       (λ κs z y e d. SamePart z y)
-  -- answer_numbers, notification_numbers
-  pub number_of : OneResult contracts.number_of
-  pub length_of : OneResult contracts.length_of
-  pub sending_number : OneResult contracts.sending_number
-  pub sending_length : OneResult contracts.sending_length
-  pub finding_number : OneResult contracts.finding_number
-  pub finding_offset : OneResult contracts.finding_offset
+  -- answer_numbers, notification_numbers: of the code's refusals, and of bare numbers
+  pub number_of : OneResult (contracts.number_of refusals)
+  pub length_of : OneResult (contracts.length_of refusals)
+  pub sending_number : OneResult (contracts.sending_number refusals)
+  pub sending_length : OneResult (contracts.sending_length refusals)
+  pub finding_number : OneResult (contracts.finding_number refusals)
+  pub finding_offset : OneResult (contracts.finding_offset refusals)
+  pub number_of_bare : OneResult (contracts.number_of numbers)
+  pub length_of_bare : OneResult (contracts.length_of numbers)
+  pub sending_number_bare : OneResult (contracts.sending_number numbers)
+  pub sending_length_bare : OneResult (contracts.sending_length numbers)
+  pub finding_number_bare : OneResult (contracts.finding_number numbers)
+  pub finding_offset_bare : OneResult (contracts.finding_offset numbers)
   -- caller_numbers
   pub address_of : OneResult contracts.address_of
   pub settings_of : OneResult contracts.settings_of

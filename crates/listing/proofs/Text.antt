@@ -1,10 +1,14 @@
 -- A number's digits are those that the standard library writes, up to 20 of them.
-use Rattle.std.proofs.Common.{◌≡◌, ℕ, suc, ◌+◌, ◌/◌, ◌%◌, ◌^◌, ◌<◌, ◌≤◌, List, [], ◌∷◌, ◌++◌, append_assoc, arith, le-ltb, lt-ltb}
+use Rattle.std.proofs.Common.{◌≡◌, ℕ, suc, ◌+◌, ◌/◌, ◌%◌, ◌^◌, ◌<◌, ◌≤◌, List, [], ◌∷◌, ◌++◌, append_assoc, arith, le-ltb, lt-ltb, Result, Ok}
+use Rattle.std.specs.Prelude.{MatchResult}
 use Rattle.std.specs.Fmt.{decimal as printed}
 use Rattle.std.proofs.lemmas.Fmt.{decimal_from_appends, length-decimal-le}
 use Rattle.wire.specs.Choice.{pick}
-use Rattle.rules.specs.Answers.{Answer}
+use Rattle.rules.specs.declared.Reception.{Reception}
+use Rattle.rules.specs.declared.Refusal.{Refusal}
 use Rattle.rules.specs.Step.{number_of, length_of}
+use Rattle.rules.specs.Told.{number, answer_told}
+use Rattle.answer_numbers.proofs.Told.{number_told, length_told}
 use Rattle.listing.specs.Text.{decimal_within, decimal, field, line}
 
 -- ---- numbers in decimal
@@ -27,7 +31,9 @@ pub put_field : (b : List ℕ) {digits : List ℕ} (n mark : ℕ) → n < 2 ^ 64
 unfolding field
 put_field b n mark h e = rw (e, decimal_printed n h, append_assoc)
 
-pub put_line : (b : List ℕ) {m l : ℕ} (offset : ℕ) (a : Answer) → m ≡ number_of a → l ≡ length_of a
-    → ((b ++ field offset 32) ++ field m 32) ++ field l 10 ≡ b ++ line offset a
+pub put_line : (b : List ℕ) (offset m l : ℕ) (a : Result Reception Refusal)
+    → MatchResult a (λ r. m ≡ number_of (answer_told (Ok r))) (λ e. m ≡ number e)
+    → MatchResult a (λ r. l ≡ length_of (answer_told (Ok r))) (λ _. l ≡ 0)
+    → ((b ++ field offset 32) ++ field m 32) ++ field l 10 ≡ b ++ line offset (answer_told a)
 unfolding line
-put_line b offset a e f = rw (e, f) (simp append_assoc)
+put_line b offset m l a h k = rw (number_told a m h, length_told a l k) (simp append_assoc)
