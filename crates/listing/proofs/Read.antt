@@ -22,7 +22,7 @@ hand_read b ys s e h k =
     ∙ ap (λ (l : List ℕ). take (e - s) (drop s l)) (take-append-drop e b)
 
 -- what was known to have failed before stays so
-still : (t : Bool) {u : Bool} → u ≡ true → either t u ≡ true
+pub still : (t : Bool) {u : Bool} → u ≡ true → either t u ≡ true
 unfolding either
 still true e = refl
 still false e = e
