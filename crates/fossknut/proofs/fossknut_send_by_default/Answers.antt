@@ -4,6 +4,6 @@ use Rattle.fossknut.proofs.fossknut_send_by_default.Goals as goal
 
 pub returns : goal.returns
 returns c =
-    let number = sending_number_told c.send_by_default-sending.result c.sending_number.result c.sending_number.ensures in
-    let length = sending_length_told c.send_by_default-sending.result c.sending_length.result c.sending_length.ensures in
+    let number = sending_number_told _ c.sending_number.result c.sending_number.ensures in
+    let length = sending_length_told _ c.sending_length.result c.sending_length.ensures in
     search rules
