@@ -6,6 +6,7 @@ use Rattle.std.proofs.lemmas.Fmt.{decimal_from_appends, length-decimal-le}
 use Rattle.wire.specs.Choice.{pick}
 use Rattle.rules.specs.declared.Reception.{Reception}
 use Rattle.rules.specs.declared.Refusal.{Refusal}
+use Rattle.rules.specs.Answers.{Answer}
 use Rattle.rules.specs.Step.{number_of, length_of}
 use Rattle.rules.specs.Told.{number, answer_told}
 use Rattle.answer_numbers.proofs.Told.{number_told, length_told}
@@ -31,9 +32,14 @@ pub put_field : (b : List ℕ) {digits : List ℕ} (n mark : ℕ) → n < 2 ^ 64
 unfolding field
 put_field b n mark h e = rw (e, decimal_printed n h, append_assoc)
 
-pub put_line : (b : List ℕ) (offset m l : ℕ) (a : Result Reception Refusal)
+pub put_line : (b : List ℕ) {m l : ℕ} (offset : ℕ) (a : Answer) → m ≡ number_of a → l ≡ length_of a
+    → ((b ++ field offset 32) ++ field m 32) ++ field l 10 ≡ b ++ line offset a
+unfolding line
+put_line b offset a e f = rw (e, f) (simp append_assoc)
+
+-- of an answer as the code holds it
+pub put_told : (b : List ℕ) (offset m l : ℕ) (a : Result Reception Refusal)
     → MatchResult a (λ r. m ≡ number_of (answer_told (Ok r))) (λ e. m ≡ number e)
     → MatchResult a (λ r. l ≡ length_of (answer_told (Ok r))) (λ _. l ≡ 0)
     → ((b ++ field offset 32) ++ field m 32) ++ field l 10 ≡ b ++ line offset (answer_told a)
-unfolding line
-put_line b offset m l a h k = rw (number_told a m h, length_told a l k) (simp append_assoc)
+put_told b offset m l a h k = put_line b offset (answer_told a) (number_told a m h) (length_told a l k)

@@ -59,7 +59,7 @@ fn put_field(output: &mut Output, n: u64, mark: char)
     output.push(mark);
 }
 
-#[tactic(auto, using(crate::proofs::Text::put_line))]
+#[tactic(auto, using(crate::proofs::Text::put_told))]
 fn put_line(output: &mut Output, offset: u64, answer: Result<Reception, Refusal>)
     requires { length output.old.bytes + 63 ≤ 65536 }
     ensures { output.new.bytes ≡ output.old.bytes ++ line offset (answer_told answer) }
